@@ -1,5 +1,5 @@
 -- A table that is filled row by row with sums has the credits.
-use Rattle.std.proofs.Common.{◌≡◌, ◌≢◌, ℕ, ◌+◌, ◌<◌, List, [], length, set, get_or, Option, refl, sym, ap, ◌∙◌, subst}
+use Rattle.std.proofs.Common.{◌≡◌, ◌≢◌, ℕ, suc, ◌+◌, ◌<◌, List, [], length, set, get_or, Option, refl, sym, ap, ◌∙◌, subst}
 use Rattle.std.proofs.Common.{arith, ℤ, pos, inl, inr, length-set, unwrap_or}
 use Rattle.std.specs.List.{All}
 use Rattle.std.proofs.lemmas.Bool.{cases_eq}
@@ -8,12 +8,14 @@ use Rattle.timetable.specs.Compositions.{compositions_of, composition_at, greate
 use Rattle.timetable.specs.Day.{Day}
 use Rattle.timetable.proofs.Picking.{types_known}
 use Rattle.branch_tree.specs.declared.multipliers.Entry.{Entry}
+use Rattle.branch_tree.specs.Entries.{AreMultipliers}
 use Rattle.price_bound.specs.declared.price_tables.PriceTables.{PriceTables}
 use Rattle.price_bound.specs.CellSizes.{IsSmall, most_units_price}
-use Rattle.price_bound.specs.Credits.{AreCredits, AreDebits, AreRowsBut, AreSumsBelow, AreSumsIn, IsRowSummed, put_in}
+use Rattle.price_bound.specs.Credits.{AreAllByType, AreAllSums, AreCredits, AreDebits, AreRowsBut, AreSumsBelow}
+use Rattle.price_bound.specs.Credits.{AreSumsIn, IsRowSummed, put_in}
 use Rattle.price_bound.specs.PriceTables.{ArePrices, HasSize, amount_at}
 use Rattle.price_bound.proofs.Steps.{entry_below}
-use Rattle.price_bound.proofs.Summing.{giving_is, taking_is, types_below}
+use Rattle.price_bound.proofs.Summing.{gives_small, giving_is, takes_small, taking_is, types_below}
 
 -- ---- one amount changed
 
@@ -53,12 +55,13 @@ pub others_more : (rows columns : ℕ) (table old : List (List ℤ)) (t comp : �
 others_more rows columns table old t comp sum size same other differ =
     row_other rows columns table size t comp sum other differ ∙ same other differ
 
-pub summed_size : (day : Day) (amounts : List ℤ) (t : ℕ) (table new : List (List ℤ)) → HasSize (length day.trips) (length (compositions_of day)) table
-    → IsRowSummed day amounts t table new → HasSize (length day.trips) (length (compositions_of day)) new
+pub summed_size : (day : Day) (amounts : List ℤ) (t : ℕ) (table new : List (List ℤ))
+    → HasSize (length day.trips) (suc (length (compositions_of day))) table → IsRowSummed day amounts t table new
+    → HasSize (length day.trips) (suc (length (compositions_of day))) new
 summed_size day amounts t table new size is = record {
   height = is.height ∙ size.height;
   widths = λ r below. elim (cases_eq r t) [
-    | inl same ↦ ap (λ (k : ℕ). length (get_or new k [])) same ∙ is.width
+    | inl same ↦ ap (λ (k : ℕ). length (get_or new k [])) same ∙ is.row.long
     | inr differ ↦ ap length (is.others r differ) ∙ size.widths r below
   ];
 }
@@ -86,20 +89,33 @@ known day c below =
     subst (All (λ (m : ℕ). m < length day.types)) (sym (ap (λ (o : Option (List ℕ)). unwrap_or o []) at))
     (types_below day.types ms (types_known day.types (greatest_platform day) c ms at))
 
-module _ (day : Day) (entries : List Entry) (tables : PriceTables) (table : List (List ℤ)) (prices : ArePrices day entries tables)
-    (size : HasSize (length day.trips) (length (compositions_of day)) table) where
-  pub credits_are : AreSumsBelow day tables.gives (length day.trips) table → AreCredits day entries table
-  credits_are sums = record {
-    sized = size;
-    values = λ t c lt below. (sums t lt).values c below
+module _ (day : Day) (entries : List Entry) (tables : PriceTables) (table : List (List ℤ)) (prices : ArePrices day entries tables) where
+  pub credits_are : AreAllSums day tables.gives table → AreCredits day entries table
+  credits_are all = record {
+    sized = all.sized;
+    values = λ t c lt below. (all.sums t lt).values c below
         ∙ giving_is day entries tables prices t lt (composition_at day c) (known day c below);
-    small = λ t c lt below. (sums t lt).small c below;
+    small = λ t c lt below. (all.sums t lt).small c below;
   }
 
-  pub debits_are : AreSumsBelow day tables.takes (length day.trips) table → AreDebits day entries table
-  debits_are sums = record {
-    sized = size;
-    values = λ t c lt below. (sums t lt).values c below
+  pub debits_are : AreAllSums day tables.takes table → AreDebits day entries table
+  debits_are all = record {
+    sized = all.sized;
+    values = λ t c lt below. (all.sums t lt).values c below
         ∙ taking_is day entries tables prices t lt (composition_at day c) (known day c below);
-    small = λ t c lt below. (sums t lt).small c below;
+    small = λ t c lt below. (all.sums t lt).small c below;
+  }
+
+-- the prices of units of each type are small
+module _ (day : Day) (entries : List Entry) (tables : PriceTables) (prices : ArePrices day entries tables) (multipliers : AreMultipliers entries) where
+  pub gives_by_type : AreAllByType day tables.gives
+  gives_by_type = record {
+    sized = prices.sized.gives;
+    small = λ t lt. gives_small day entries tables prices t (omega (arith, lt, prices.sized.gives.height)) multipliers;
+  }
+
+  pub takes_by_type : AreAllByType day tables.takes
+  takes_by_type = record {
+    sized = prices.sized.takes;
+    small = λ t lt. takes_small day entries tables prices t (omega (arith, lt, prices.sized.takes.height)) multipliers;
   }

@@ -1,9 +1,9 @@
 -- Sums over the units of compositions, by those over the units of lower ones.
 use Rattle.std.proofs.Common.{◌≡◌, ℕ, zero, suc, ◌+◌, ◌*◌, ◌<◌, ◌⊎◌, List, [], ◌∷◌, ◌++◌, length, take, set, get_or, sym, ap, ◌∙◌}
-use Rattle.std.proofs.Common.{subst, arith, ℤ, pos, ◌+ℤ◌, inl, inr, length-append, slice_get, Some}
+use Rattle.std.proofs.Common.{subst, arith, ℤ, pos, ◌+ℤ◌, inl, inr, length-append, length-set, slice_get, Some}
 use Rattle.std.proofs.lemmas.Bool.{cases_eq}
 use Rattle.std.proofs.lemmas.Int.{ints}
-use Rattle.std.proofs.lemmas.List.{get_or-set_other, get_or-set_same, get_or_past}
+use Rattle.std.proofs.lemmas.List.{get_or-set_other, get_or-set_same}
 use Rattle.std.proofs.lemmas.List.Elements.{All-get_or}
 use Rattle.std.proofs.Math.Seq.{get_or-append_seam}
 use Rattle.rules.specs.declared.records.End.TheVariants as at
@@ -12,8 +12,8 @@ use Rattle.timetable.specs.Day.{Day}
 use Rattle.transitions.proofs.Listed.{few_units}
 use Rattle.price_bound.specs.CellSizes.{IsSmall, most_price, most_units_price}
 use Rattle.price_bound.specs.CompositionTrees.{IsLast, IsRest}
-use Rattle.price_bound.specs.Credits.{AreRowSums, AreSmallAmounts, sum_in}
-use Rattle.price_bound.proofs.Adding.{small_more, sum_small}
+use Rattle.price_bound.specs.Credits.{AreSmallAmounts, AreSumsBefore, sum_in}
+use Rattle.price_bound.proofs.Adding.{small_more, small_zero, sum_small}
 use Rattle.price_bound.proofs.CompositionTrees.{fewer_lower, number_past}
 use Rattle.price_bound.proofs.Crediting.{known}
 use Rattle.price_bound.proofs.IntLaws.{sum_append}
@@ -87,35 +87,52 @@ sum_of_comp_small row day comp listed long small =
     (All-get_or (λ (m : ℕ). m < length day.types) ms k d lt (known day comp listed)))))
 
 -- the sum at the place of a rest
-pub rest_sum_at : (row sums : List ℤ) (day : Day) (comp rest : ℕ) → comp < length (compositions_of day) → length sums ≡ length (compositions_of day)
-    → IsRest day at.Rear comp rest → AreRowSums day row comp sums → get_or sums rest (pos 0) ≡ sum_in row (composition_at day rest)
-rest_sum_at row sums day comp rest listed long is done = elim (rest_lower day comp rest listed is) [
-  | inl lower ↦ done.values rest lower
-  | inr past ↦ get_or_past sums rest (pos 0) (omega (arith, past, long))
-      ∙ sym (ap (sum_in row) (number_past day rest (omega (arith, past))))
-]
+module _ (row sums : List ℤ) (day : Day) (comp rest : ℕ) (listed : comp < length (compositions_of day)) (is : IsRest day at.Rear comp rest)
+    (done : AreSumsBefore day row comp sums) where
+  none_here : rest ≡ length (compositions_of day) → get_or sums rest (pos 0) ≡ pos 0
+  none_here past = ap (λ (k : ℕ). get_or sums k (pos 0)) past ∙ done.none
 
-pub rest_small_at : (row sums : List ℤ) (day : Day) (comp rest : ℕ) → comp < length (compositions_of day) → length sums ≡ length (compositions_of day)
-    → IsRest day at.Rear comp rest → AreRowSums day row comp sums → IsSmall most_units_price (get_or sums rest (pos 0))
-rest_small_at row sums day comp rest listed long is done = elim (rest_lower day comp rest listed is) [
-  | inl lower ↦ done.small rest lower
-  | inr past ↦ subst (IsSmall most_units_price) (sym (get_or_past sums rest (pos 0) (omega (arith, past, long))))
-      (record { above = omega (arith, ints); below = omega (arith, ints) })
-]
+  pub rest_sum_at : get_or sums rest (pos 0) ≡ sum_in row (composition_at day rest)
+  rest_sum_at = elim (rest_lower day comp rest listed is) [
+    | inl lower ↦ done.sums.values rest lower
+    | inr past ↦ none_here past ∙ sym (ap (sum_in row) (number_past day rest (omega (arith, past))))
+  ]
+
+  pub rest_small_at : IsSmall most_units_price (get_or sums rest (pos 0))
+  rest_small_at = elim (rest_lower day comp rest listed is) [
+    | inl lower ↦ done.sums.small rest lower
+    | inr past ↦ subst (IsSmall most_units_price) (sym (none_here past)) (small_zero most_units_price)
+  ]
+
+-- before the first composition there are no sums
+pub sums_begin : (day : Day) (row sums : List ℤ) → length sums ≡ suc (length (compositions_of day))
+    → AreSumsBefore day row 0 (set sums (length (compositions_of day)) (pos 0))
+sums_begin day row sums long = record {
+  long = length-set sums (length (compositions_of day)) (pos 0) ∙ long;
+  none = get_or-set_same sums (length (compositions_of day)) (pos 0) (pos 0) (omega (arith, long));
+  sums = record {
+    values = λ c before. absurd (omega (arith, before));
+    small = λ c before. absurd (omega (arith, before));
+  };
+}
 
 -- one sum more
-pub row_sums_more : (day : Day) (row sums : List ℤ) (comp : ℕ) (sum : ℤ) → comp < length sums → AreRowSums day row comp sums
-    → sum ≡ sum_in row (composition_at day comp) → IsSmall most_units_price sum → AreRowSums day row (comp + 1) (set sums comp sum)
-row_sums_more day row sums comp sum lt done is small = record {
-  values = λ c before. elim (cases_eq c comp) [
-    | inl same ↦ subst (λ (k : ℕ). get_or (set sums comp sum) k (pos 0) ≡ sum_in row (composition_at day k)) (sym same)
-        (get_or-set_same sums comp sum (pos 0) lt ∙ is)
-    | inr differ ↦ get_or-set_other sums comp c sum (pos 0) differ ∙ done.values c (omega (arith, before, differ))
-  ];
-  small = λ c before. elim (cases_eq c comp) [
-    | inl same ↦ subst (λ (k : ℕ). IsSmall most_units_price (get_or (set sums comp sum) k (pos 0))) (sym same)
-        (subst (IsSmall most_units_price) (sym (get_or-set_same sums comp sum (pos 0) lt)) small)
-    | inr differ ↦ subst (IsSmall most_units_price) (sym (get_or-set_other sums comp c sum (pos 0) differ))
-        (done.small c (omega (arith, before, differ)))
-  ];
+pub sums_more : (day : Day) (row sums : List ℤ) (comp : ℕ) (sum : ℤ) → comp < length (compositions_of day) → AreSumsBefore day row comp sums
+    → sum ≡ sum_in row (composition_at day comp) → IsSmall most_units_price sum → AreSumsBefore day row (comp + 1) (set sums comp sum)
+sums_more day row sums comp sum listed done is small = record {
+  long = length-set sums comp sum ∙ done.long;
+  none = get_or-set_other sums comp (length (compositions_of day)) sum (pos 0) (λ same. absurd (omega (arith, same, listed))) ∙ done.none;
+  sums = record {
+    values = λ c before. elim (cases_eq c comp) [
+      | inl same ↦ subst (λ (k : ℕ). get_or (set sums comp sum) k (pos 0) ≡ sum_in row (composition_at day k)) (sym same)
+          (get_or-set_same sums comp sum (pos 0) (omega (arith, listed, done.long)) ∙ is)
+      | inr differ ↦ get_or-set_other sums comp c sum (pos 0) differ ∙ done.sums.values c (omega (arith, before, differ))
+    ];
+    small = λ c before. elim (cases_eq c comp) [
+      | inl same ↦ subst (λ (k : ℕ). IsSmall most_units_price (get_or (set sums comp sum) k (pos 0))) (sym same)
+          (subst (IsSmall most_units_price) (sym (get_or-set_same sums comp sum (pos 0) (omega (arith, listed, done.long)))) small)
+      | inr differ ↦ subst (IsSmall most_units_price) (sym (get_or-set_other sums comp c sum (pos 0) differ))
+          (done.sums.small c (omega (arith, before, differ)))
+    ];
+  };
 }

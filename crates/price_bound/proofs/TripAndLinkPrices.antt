@@ -1,5 +1,5 @@
 -- What is found once for a trip, a turn, a join or a split is what the tables have for it.
-use Rattle.std.proofs.Common.{◌≡◌, ℕ, ◌<◌, List, [], length, get_or, true, false, Bool, Option, Some, None, sym, ap}
+use Rattle.std.proofs.Common.{◌≡◌, ℕ, suc, ◌<◌, List, [], length, get_or, true, false, Bool, Option, Some, None, sym, ap}
 use Rattle.std.proofs.Common.{◌∙◌, subst, arith, ℤ, pos}
 use Rattle.std.specs.Prelude.{IfSome, if◌then◌else◌, int_lt, option_map}
 use Rattle.std.specs.List.{All}
@@ -42,7 +42,7 @@ module _ (day : Day) (price : ℕ → List ℕ → ℤ) (table : List (List ℤ)
   unit_price_small comp below =
       subst (λ (amounts : List ℤ). IsSmall most_units_price (get_or amounts comp (pos 0))) (sym at) (is.small t comp known below)
 
-  pub unit_prices_long : length row ≡ length (compositions_of day)
+  pub unit_prices_long : length row ≡ suc (length (compositions_of day))
   unit_prices_long = ap length at ∙ is.sized.widths t known
 
 module _ (pricing : Pricing) (is : ArePriced pricing) (t : ℕ) (known : t < length pricing.instance.now.trips) where

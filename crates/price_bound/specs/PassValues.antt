@@ -69,8 +69,8 @@ pub record IsForPasses (passes : Passes) : Type 0 where
   pub shorter_long : length passes.shorter.now ≡ comps_for passes
   pub longer_long : length passes.longer.now ≡ comps_for passes
   pub turned_long : length passes.turned.now ≡ comps_for passes
-  pub credits_long : length passes.credits.now ≡ comps_for passes
-  pub debits_long : length passes.debits.now ≡ comps_for passes
+  pub credits_long : length passes.credits.now ≡ suc (comps_for passes)
+  pub debits_long : length passes.debits.now ≡ suc (comps_for passes)
 
 -- the most that a value, or no value, comes to
 abbrev pub most_held : ℕ

@@ -1,5 +1,5 @@
 -- The room in which the bounds of a day are found.
-use Rattle.std.specs.Prelude.{◌≡◌, List, length}
+use Rattle.std.specs.Prelude.{◌≡◌, suc, List, length}
 use Rattle.inventory.specs.Loaded.{Loaded}
 use Rattle.transitions.specs.declared.edge.Edge.{Edge}
 use Rattle.price_bound.specs.declared.changes.Change.{Change}
@@ -17,8 +17,8 @@ use Rattle.price_bound.specs.PriceTables.{AreSized, HasSize}
 pub record IsRoomFor (day : Day) (changes : List Change) (room : Workspace) : Type 0 where
   pub costs : AreCosts day changes room.costs
   pub tables : AreSized day room.tables
-  pub credits : HasSize (length day.trips) (length (compositions_of day)) room.credits
-  pub debits : HasSize (length day.trips) (length (compositions_of day)) room.debits
+  pub credits : HasSize (length day.trips) (suc (length (compositions_of day))) room.credits
+  pub debits : HasSize (length day.trips) (suc (length (compositions_of day))) room.debits
   pub trains : AreTrains day room.trains
   pub rows : HaveRoom (length day.trips) (length (compositions_of day)) room.rows
   pub choice : length room.choice ≡ length day.trips

@@ -1,14 +1,14 @@
 //! Tables of amounts by row and column.
 
-ghost use Rattle.std.specs.Prelude.{◌≡◌, ◌<◌, [], map, length, get_or, set, replicate, pos, IfOk};
+ghost use Rattle.std.specs.Prelude.{◌≡◌, ◌<◌, [], map, suc, length, get_or, set, replicate, pos, IfOk};
 ghost use Rattle.inventory.specs.CountTable.{changed_at, changed_in};
 ghost use Rattle.timetable.specs.Compositions.{compositions_of};
 ghost use Rattle.price_bound.specs.CompositionTrees.{AreTrains};
-ghost use Rattle.price_bound.specs.Credits.{AreRowSums, AreSmallAmounts, IsRowSummed, put_in};
+ghost use Rattle.price_bound.specs.Credits.{AreByType, AreSumsOf, HasSumRoom, IsRowSummed, put_in};
 ghost use Rattle.price_bound.specs.PriceTables.{cleared_table};
 ghost use Rattle.price_bound.specs.YardTables.{column_of, later_sums};
 
-use crate::credits::put_sums;
+use crate::credits::{UnitPrices, put_sums};
 use crate::trains::Trains;
 use rail_base::NoMemory;
 use std::alloc::Global;
@@ -103,21 +103,30 @@ impl AmountRow {
         }
     }
 
-    /// Puts for each composition the sum of what another row has for its types.
-    fn put_sums(&mut self, instance: &Instance, trains: &Trains, amounts: &AmountRow)
+    /// Puts for each composition the sum of what units of its types cost where they are given, and into another row
+    /// where they are taken. Both have one place more, for no units.
+    fn put_sums(
+        &mut self,
+        taken: &mut AmountRow,
+        instance: &Instance,
+        trains: &Trains,
+        prices: &UnitPrices<'_>,
+    )
         requires trains { AreTrains instance.now trains.now }
-        requires sized { length amounts.now ≡ length instance.now.types }
-        requires small { AreSmallAmounts amounts.now }
-        requires room { length self.old ≡ length (compositions_of instance.now) }
-        ensures room { length self.new ≡ length (compositions_of instance.now) }
-        ensures sums { AreRowSums instance.now amounts.now (length (compositions_of instance.now)) self.new }
+        requires gives { AreByType instance.now prices.now.gives.now }
+        requires takes { AreByType instance.now prices.now.takes.now }
+        requires room { length self.old ≡ suc (length (compositions_of instance.now)) }
+        requires taken_room { length taken.old ≡ suc (length (compositions_of instance.now)) }
+        ensures sums { AreSumsOf instance.now prices.now.gives.now self.new }
+        ensures taken { AreSumsOf instance.now prices.now.takes.now taken.new }
     {
         put_sums(
             instance,
             &trains.fronts,
             &trains.lasts,
-            &amounts.amounts,
+            prices,
             &mut self.amounts,
+            &mut taken.amounts,
         );
     }
 
@@ -186,22 +195,25 @@ impl AmountTable {
         self.rows[row].copy_column(table, column);
     }
 
-    /// Puts into a row for each composition the sum of what another row has for its types.
+    /// Puts into a row for each composition the sum of what units of its types cost where they are given, and into that
+    /// row of another table where they are taken.
     pub(crate) fn put_sums(
         &mut self,
+        taken: &mut AmountTable,
         row: usize,
         instance: &Instance,
         trains: &Trains,
-        amounts: &AmountRow,
+        prices: &UnitPrices<'_>,
     )
-        requires row { row < length self.old }
         requires trains { AreTrains instance.now trains.now }
-        requires sized { length amounts.now ≡ length instance.now.types }
-        requires small { AreSmallAmounts amounts.now }
-        requires room { length (get_or self.old row []) ≡ length (compositions_of instance.now) }
-        ensures { IsRowSummed instance.now amounts.now row self.old self.new }
+        requires gives { AreByType instance.now prices.now.gives.now }
+        requires takes { AreByType instance.now prices.now.takes.now }
+        requires row { HasSumRoom instance.now row self.old }
+        requires taken_row { HasSumRoom instance.now row taken.old }
+        ensures sums { IsRowSummed instance.now prices.now.gives.now row self.old self.new }
+        ensures taken { IsRowSummed instance.now prices.now.takes.now row taken.old taken.new }
     {
-        self.rows[row].put_sums(instance, trains, amounts);
+        self.rows[row].put_sums(&mut taken.rows[row], instance, trains, prices);
     }
 
     /// Changes the amount of a row and a column, if there is one.

@@ -58,13 +58,8 @@ pub(crate) fn put_prices(room: &mut Workspace, asked: &Asked<'_>, guide: &mut Pr
     fill_sums(
         asked.instance,
         &room.trains,
-        &room.tables.gives,
+        &room.tables,
         &mut room.credits,
-    );
-    fill_sums(
-        asked.instance,
-        &room.trains,
-        &room.tables.takes,
         &mut room.debits,
     );
     let pricing = Pricing {

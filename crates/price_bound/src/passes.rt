@@ -258,7 +258,7 @@ fn clear(values: &mut [i64])
 }
 
 /// The value at a place.
-fn value_at(values: &[i64], place: usize) -> Amount
+pub(crate) fn value_at(values: &[i64], place: usize) -> Amount
     requires { place < length values.now }
     ensures { result.0 ≡ value_at values.now place }
 {
@@ -274,7 +274,7 @@ fn put_value(values: &mut [i64], place: usize, value: Amount)
 }
 
 /// The place that stands at a place.
-fn place_at(places: &[u32], place: usize) -> usize
+pub(crate) fn place_at(places: &[u32], place: usize) -> usize
     requires { place < length places.now }
     ensures { result ≡ place_at places.now place }
 {

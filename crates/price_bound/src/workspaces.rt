@@ -39,9 +39,11 @@ pub(crate) struct Workspace {
     pub costs: AmountTable,
     /// The prices under the multipliers of a bound.
     pub tables: PriceTables,
-    /// For each trip and composition the price of the composition's units, where the trip gives them.
+    /// For each trip and composition the price of the composition's units, where the trip gives them, and one for no
+    /// units.
     pub credits: AmountTable,
-    /// For each trip and composition the price of the composition's units, where the trip takes them.
+    /// For each trip and composition the price of the composition's units, where the trip takes them, and one for no
+    /// units.
     pub debits: AmountTable,
     /// How the compositions are made of one another.
     pub trains: Trains,
@@ -65,8 +67,8 @@ impl Workspace {
         let comps = instance.catalogue().len() as usize;
         let mut costs = AmountTable::new(alloc, trips, comps)?;
         fill_costs(instance, changes, &mut costs);
-        let credits = AmountTable::new(alloc, trips, comps)?;
-        let debits = AmountTable::new(alloc, trips, comps)?;
+        let credits = AmountTable::new(alloc, trips, comps + 1)?;
+        let debits = AmountTable::new(alloc, trips, comps + 1)?;
         let trains = Trains::of(alloc, instance)?;
         let rows = ChainRows::new(alloc, instance)?;
         let tables = PriceTables::new(alloc, instance)?;
@@ -114,10 +116,10 @@ impl Workspace {
         fill_sums(
             instance,
             &self.trains,
-            &self.tables.gives,
+            &self.tables,
             &mut self.credits,
+            &mut self.debits,
         );
-        fill_sums(instance, &self.trains, &self.tables.takes, &mut self.debits);
         let pricing = Pricing {
             instance,
             graphs,

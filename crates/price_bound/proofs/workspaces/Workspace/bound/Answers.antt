@@ -1,24 +1,21 @@
 -- What is found along the chains is the bound.
-use Rattle.std.proofs.Common.{arith, Option, Some, length, ℤ, ◌+ℤ◌, ap, sym, subst, ◌∙◌}
+use Rattle.std.proofs.Common.{Option, Some, length, ℤ, ◌+ℤ◌, ap, sym, subst, ◌∙◌}
 use Rattle.rail_base.specs.declared.numbers.Money.{Money}
 use Rattle.price_bound.specs.ChainStages.{Priced}
 use Rattle.price_bound.specs.ChangedDays.{changed_day, changed_meanings}
 use Rattle.price_bound.specs.FirstPaths.{AreFound}
 use Rattle.price_bound.proofs.Bounding.{found_bound, none_bound}
-use Rattle.price_bound.proofs.Crediting.{credits_are, debits_are}
+use Rattle.price_bound.proofs.Crediting.{credits_are, debits_are, gives_by_type, takes_by_type}
 use Rattle.price_bound.proofs.DayPrices.{day_priced}
-use Rattle.price_bound.proofs.Summing.{gives_small, takes_small}
 use Rattle.price_bound.proofs.workspaces.Workspace.bound.Goals as goal
 
-pub fill_sums-requires-clause-small : goal.fill_sums-requires-clause-small
-fill_sums-requires-clause-small c t lt =
-    gives_small c.args.instance.now c.args.multipliers.now c.fill.new.self c.fill.ensures t
-    (omega (arith, lt, c.fill.ensures.sized.gives.height)) c.entries.ensures.multipliers
+pub fill_sums-requires-clause-gives : goal.fill_sums-requires-clause-gives
+fill_sums-requires-clause-gives c =
+    gives_by_type c.args.instance.now c.args.multipliers.now c.fill.new.self c.fill.ensures c.entries.ensures.multipliers
 
-pub fill_sums-requires-2-clause-small : goal.fill_sums-requires-2-clause-small
-fill_sums-requires-2-clause-small c t lt =
-    takes_small c.args.instance.now c.args.multipliers.now c.fill.new.self c.fill.ensures t
-    (omega (arith, lt, c.fill.ensures.sized.takes.height)) c.entries.ensures.multipliers
+pub fill_sums-requires-clause-takes : goal.fill_sums-requires-clause-takes
+fill_sums-requires-clause-takes c =
+    takes_by_type c.args.instance.now c.args.multipliers.now c.fill.new.self c.fill.ensures c.entries.ensures.multipliers
 
 pub first_paths-requires-clause-priced : goal.first_paths-requires-clause-priced
 first_paths-requires-clause-priced c = record {
@@ -26,10 +23,8 @@ first_paths-requires-clause-priced c = record {
   multipliers_are = c.entries.ensures.multipliers;
   costs = c.requires.room.costs;
   prices = c.fill.ensures;
-  credits = credits_are c.args.instance.now c.args.multipliers.now c.fill.new.self c.fill_sums.new.sums c.fill.ensures
-      c.fill_sums.ensures.room c.fill_sums.ensures.sums;
-  debits = debits_are c.args.instance.now c.args.multipliers.now c.fill.new.self c.fill_sums-2.new.sums c.fill.ensures
-      c.fill_sums-2.ensures.room c.fill_sums-2.ensures.sums;
+  credits = credits_are c.args.instance.now c.args.multipliers.now c.fill.new.self c.fill_sums.new.credits c.fill.ensures c.fill_sums.ensures.credits;
+  debits = debits_are c.args.instance.now c.args.multipliers.now c.fill.new.self c.fill_sums.new.debits c.fill.ensures c.fill_sums.ensures.debits;
   trains = c.requires.room.trains;
   over = c.requires.region;
 }
