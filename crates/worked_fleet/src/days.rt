@@ -12,13 +12,19 @@ use std::alloc::Global;
 use std::test::Fail;
 use timetable::{Instance, tables_of};
 
-/// The table of the stock with so many units at X, at most three.
+/// The tables of the stock with so many units at X, from none to three.
+const STOCKS: &[&[u8]] = &[
+    b"station,type,start,end\nX,A,0,0\n",
+    b"station,type,start,end\nX,A,1,1\n",
+    b"station,type,start,end\nX,A,2,2\n",
+    b"station,type,start,end\nX,A,3,3\n",
+];
+
+/// The table of the stock with so many units at X; two where that is more than three, which no case asks for.
 fn stock(units: u32) -> &'static [u8] {
-    match units {
-        0 => b"station,type,start,end\nX,A,0,0\n",
-        1 => b"station,type,start,end\nX,A,1,1\n",
-        2 => b"station,type,start,end\nX,A,2,2\n",
-        _ => b"station,type,start,end\nX,A,3,3\n",
+    match STOCKS.get(units as usize) {
+        Some(stock) => *stock,
+        None => TURN.stock,
     }
 }
 

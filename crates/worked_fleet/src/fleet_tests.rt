@@ -1,6 +1,10 @@
 //! Fleets of least cost of a small day, by their documents.
 
+ghost use Rattle.std.specs.Prelude.{◌≡◌, length};
+ghost use Rattle.timetable.specs.DayTables.{IsDayOfBytes};
+
 use crate::days::{made_of, tables};
+use fleet_boxes::Prices;
 use fleet_check::{DayOfTables, read_prices};
 use fleet_size::{Granted, fleet};
 use fleet_text::print_fleet;
@@ -53,30 +57,42 @@ fn told(alloc: Global, case: &Case) -> Result<Vec<u8>, Fail> {
     let bytes = tables(alloc, case.most)?;
     let instance = made_of(alloc, &bytes)?;
     let prices = read_prices(alloc, &instance, table(case.prices)?)?;
-    let granted = Granted {
-        branchings: 50,
-        rounds: 0,
-        splits: case.splits,
-        evaluations: 0,
-    };
-    if granted.splits > 200 {
-        return Err(Fail::new("too many splits"));
-    }
     let day = DayOfTables {
         bytes: &bytes,
         instance: &instance,
     };
+    told_of(alloc, &day, &prices, case.splits)
+}
+
+/// The document of the fleet that is found with so many splits.
+fn told_of(
+    alloc: Global,
+    day: &DayOfTables<'_>,
+    prices: &Prices,
+    splits: u32,
+) -> Result<Vec<u8>, Fail>
+    requires made { IsDayOfBytes day.now.bytes.now day.now.instance.now }
+    requires prices { length prices.now ≡ length day.now.instance.now.types }
+{
+    if splits > 200 {
+        return Err(Fail::new("too many splits"));
+    }
+    let granted = Granted {
+        branchings: 50,
+        rounds: 0,
+        splits,
+        evaluations: 0,
+    };
     let mut advisors = Vec::new(alloc);
-    let found = fleet(alloc, &day, &prices, granted, &mut advisors)?;
-    Ok(print_fleet(alloc, instance.types().len(), found)?)
+    let found = fleet(alloc, day, prices, granted, &mut advisors)?;
+    Ok(print_fleet(alloc, day.instance.types().len(), found)?)
 }
 
 #[test]
 fn fleets_are_found(rt: HostRuntime) -> Result<(), Fail> {
     for case in CASES {
         let told = told(rt.alloc(), case)?;
-        let begins = case.begins.as_bytes();
-        assert!(rt; told.as_slice().starts_with(begins));
+        assert!(rt; told.as_slice().starts_with(case.begins.as_bytes()));
     }
     Ok(())
 }

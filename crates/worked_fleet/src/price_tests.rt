@@ -1,8 +1,10 @@
 //! Tables of prices by hand.
 
+use fleet_boxes::Prices;
 use fleet_check::read_prices;
 use sample_days::{TURN, TWO_TYPES, Texts, day_of, table};
-use std::alloc::Global;
+use std::alloc::{AllocError, Global};
+use std::process::Abort;
 use std::test::Fail;
 use timetable::Instance;
 
@@ -55,21 +57,48 @@ const NO_TYPES: Texts<'static> = Texts {
     ..TURN
 };
 
+/// Adds a price, with a space before it unless it is the first.
+fn write_price(text: &mut String, cost: u32) -> Result<(), AllocError> {
+    if text.is_empty() {
+        return write!(text, "{cost}");
+    }
+    write!(text, " {cost}")
+}
+
+/// Prices, in order.
+fn text_of(alloc: Global, prices: &Prices) -> Result<String, Fail> {
+    let mut text = String::new(alloc);
+    for cost in prices.items() {
+        write_price(&mut text, *cost)?;
+    }
+    Ok(text)
+}
+
 /// What is read of a table of prices.
 fn told(alloc: Global, day: &Instance, text: &[u8]) -> Result<String, Fail> {
     match read_prices(alloc, day, table(text)?) {
-        Ok(prices) => {
-            let mut told = String::new(alloc);
-            for cost in prices.items() {
-                if !told.is_empty() {
-                    told.push(' ')?;
-                }
-                write!(told, "{cost}")?;
-            }
-            Ok(told)
-        }
+        Ok(prices) => text_of(alloc, &prices),
         Err(refusal) => Ok(format!(in alloc; "{refusal:?}")?),
     }
+}
+
+/// Whether so much is read of a table of prices.
+fn is_read(alloc: Global, day: &Instance, text: &[u8], wanted: &str) -> Result<bool, Fail> {
+    let told = told(alloc, day, text)?;
+    Ok(told.as_str() == wanted)
+}
+
+/// Each table of prices of a day is read as it is to be.
+fn are_read(
+    rt: &impl Abort,
+    alloc: Global,
+    day: &Instance,
+    cases: &[(&[u8], &str)],
+) -> Result<(), Fail> {
+    for (text, wanted) in cases {
+        assert!(rt; is_read(alloc, day, *text, *wanted)?, "{wanted}");
+    }
+    Ok(())
 }
 
 /// The tables of days, and tables of prices of each.
@@ -83,10 +112,7 @@ const READ: &[(Texts<'static>, &[(&[u8], &str)])] = &[
 fn prices_are_read(rt: HostRuntime) -> Result<(), Fail> {
     for (texts, cases) in READ {
         let day = day_of(rt.alloc(), texts)?;
-        for (text, wanted) in *cases {
-            let told = told(rt.alloc(), &day, text)?;
-            assert_eq!(rt; told.as_str(), *wanted);
-        }
+        are_read(&rt, rt.alloc(), &day, *cases)?;
     }
     Ok(())
 }

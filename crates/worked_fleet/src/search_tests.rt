@@ -2,13 +2,17 @@
 //! it valid. On a line whose trip out wants 300 seats and whose trip back wants 150, two units cost 120 and one costs
 //! 1060.
 
+ghost use Rattle.std.specs.Prelude.{◌≡◌, length, IfOk};
+ghost use Rattle.timetable.specs.DayTables.{IsDayOfBytes};
+ghost use Rattle.fleet_size.specs.Found.{IsGranted};
+
 use crate::days::{made_of, tables_in};
 use answer_text::Head;
-use fleet_boxes::BoxNode;
-use fleet_check::{DayOfTables, Fleet, FleetVerdict, check_fleet, read_prices};
+use fleet_boxes::{BoxNode, Prices};
+use fleet_check::{Chosen, DayOfTables, Fleet, FleetVerdict, check_fleet, read_prices};
 use fleet_size::{Granted, fleet};
 use sample_days::{TURN, Texts, table};
-use std::alloc::Global;
+use std::alloc::{AllocError, Global};
 use std::test::Fail;
 
 /// A day for which a fleet is to be found, and what is found.
@@ -145,74 +149,124 @@ const CASES: &[Case] = &[
     },
 ];
 
-/// What is said, and the chosen stock.
-fn said(alloc: Global, found: &Fleet) -> Result<String, Fail> {
-    let mut told = match found.head {
-        Head::Optimal { cost } => format!(in alloc; "optimal {}", cost.0)?,
-        Head::Infeasible => format!(in alloc; "infeasible")?,
-        Head::Bounded { bound } => format!(in alloc; "bounded {}", bound.0)?,
+/// What a head says.
+fn head_text(alloc: Global, head: &Head) -> Result<String, AllocError> {
+    match head {
+        Head::Optimal { cost } => format!(in alloc; "optimal {}", cost.0),
+        Head::Infeasible => String::from_str(alloc, "infeasible"),
+        Head::Bounded { bound } => format!(in alloc; "bounded {}", bound.0),
         Head::BoundedPlan { bound, cost } => format!(in alloc;
             "bounded {} plan {}",
             bound.0, cost.0
-        )?,
-    };
-    if let Some(chosen) = &found.chosen {
-        told.push_str(", stock")?;
-        for count in chosen.stock.items() {
-            write!(told, " {count}")?;
-        }
+        ),
     }
+}
+
+/// Adds the chosen stock, where there is one.
+fn write_stock(text: &mut String, chosen: &Option<Chosen>) -> Result<(), AllocError> {
+    let Some(chosen) = chosen else {
+        return Ok(());
+    };
+    write!(text, ", stock")?;
+    for count in chosen.stock.items() {
+        write!(text, " {count}")?;
+    }
+    Ok(())
+}
+
+/// What is said, and the chosen stock.
+fn said(alloc: Global, found: &Fleet) -> Result<String, Fail> {
+    let mut told = head_text(alloc, &found.head)?;
+    write_stock(&mut told, &found.chosen)?;
     Ok(told)
+}
+
+/// Adds a node, without its tree.
+fn write_node(text: &mut String, node: &BoxNode) -> Result<(), AllocError> {
+    match node {
+        BoxNode::Split {
+            station,
+            unit_type,
+            at,
+        } => write!(text, "split {} {} {at}", station.0, unit_type.0),
+        BoxNode::Bound { bound, .. } => write!(text, "bound {}", bound.0),
+        BoxNode::Nothing { .. } => write!(text, "nothing"),
+    }
+}
+
+/// Adds a node after those before it.
+fn write_next(text: &mut String, node: &BoxNode) -> Result<(), AllocError> {
+    if text.is_empty() {
+        return write_node(text, node);
+    }
+    write!(text, ", ")?;
+    write_node(text, node)
 }
 
 /// The nodes of the boxes, in order, without their trees.
 fn boxes(alloc: Global, found: &Fleet) -> Result<String, Fail> {
     let mut told = String::new(alloc);
     for node in found.boxes.items() {
-        if !told.is_empty() {
-            told.push_str(", ")?;
-        }
-        match node {
-            BoxNode::Split {
-                station,
-                unit_type,
-                at,
-            } => write!(told, "split {} {} {at}", station.0, unit_type.0)?,
-            BoxNode::Bound { bound, .. } => write!(told, "bound {}", bound.0)?,
-            BoxNode::Nothing { .. } => write!(told, "nothing")?,
-        }
+        write_next(&mut told, node)?;
     }
     Ok(told)
+}
+
+/// Whether a fleet says what is to be said, with these boxes.
+fn is_told(alloc: Global, case: &Case, found: &Fleet) -> Result<bool, Fail> {
+    let told = said(alloc, found)?;
+    let nodes = boxes(alloc, found)?;
+    Ok(told.as_str() == case.said && nodes.as_str() == case.boxes)
+}
+
+/// What is granted for a case.
+fn granted(case: &Case) -> Result<Granted, Fail>
+    ensures { IfOk result IsGranted }
+{
+    if case.branchings > 200 || case.splits > 200 {
+        return Err(Fail::new("too much is granted"));
+    }
+    Ok(Granted {
+        branchings: case.branchings,
+        rounds: 0,
+        splits: case.splits,
+        evaluations: 0,
+    })
+}
+
+/// Whether what is found of a day under prices is valid, and what is to be found.
+fn is_right(
+    alloc: Global,
+    case: &Case,
+    day: &DayOfTables<'_>,
+    prices: &Prices,
+) -> Result<bool, Fail>
+    requires made { IsDayOfBytes day.now.bytes.now day.now.instance.now }
+    requires prices { length prices.now ≡ length day.now.instance.now.types }
+{
+    let granted = granted(case)?;
+    let mut advisors = Vec::new(alloc);
+    let found = fleet(alloc, day, prices, granted, &mut advisors)?;
+    let verdict = check_fleet(alloc, day, prices, &found)?;
+    Ok(verdict == FleetVerdict::Valid && is_told(alloc, case, &found)?)
+}
+
+/// Whether what is found of a case is valid, and what is to be found.
+fn is_found(alloc: Global, case: &Case) -> Result<bool, Fail> {
+    let bytes = tables_in(alloc, &case.texts)?;
+    let instance = made_of(alloc, &bytes)?;
+    let prices = read_prices(alloc, &instance, table(case.prices)?)?;
+    let day = DayOfTables {
+        bytes: &bytes,
+        instance: &instance,
+    };
+    is_right(alloc, case, &day, &prices)
 }
 
 #[test]
 fn fleets_are_searched_box_by_box(rt: HostRuntime) -> Result<(), Fail> {
     for case in CASES {
-        let alloc = rt.alloc();
-        let bytes = tables_in(alloc, &case.texts)?;
-        let instance = made_of(alloc, &bytes)?;
-        let prices = read_prices(alloc, &instance, table(case.prices)?)?;
-        if case.branchings > 200 || case.splits > 200 {
-            return Err(Fail::new("too much is granted"));
-        }
-        let granted = Granted {
-            branchings: case.branchings,
-            rounds: 0,
-            splits: case.splits,
-            evaluations: 0,
-        };
-        let day = DayOfTables {
-            bytes: &bytes,
-            instance: &instance,
-        };
-        let mut advisors = Vec::new(alloc);
-        let found = fleet(alloc, &day, &prices, granted, &mut advisors)?;
-        let verdict = check_fleet(alloc, &day, &prices, &found)?;
-        assert_eq!(rt; verdict, FleetVerdict::Valid, "{}", case.about);
-        let told = said(alloc, &found)?;
-        assert_eq!(rt; told.as_str(), case.said, "{}", case.about);
-        let nodes = boxes(alloc, &found)?;
-        assert_eq!(rt; nodes.as_str(), case.boxes, "{}", case.about);
+        assert!(rt; is_found(rt.alloc(), case)?, "{}", case.about);
     }
     Ok(())
 }
