@@ -146,6 +146,11 @@ fn add_plans<R: Relaxation>(
     Ok(())
 }
 
+/// Whether a bound has the costs in it: not where the improver may be asked again.
+fn weight_of(again: bool) -> Weight {
+    if again { Weight::NoCost } else { Weight::Cost }
+}
+
 /// Adds to a text what an improver proposed: whether it may be asked again, the bound of its multipliers, without cost
 /// where it may, the cost of each of its picks, and whether there is a cut.
 fn add_told<R: Relaxation>(
@@ -156,13 +161,27 @@ fn add_told<R: Relaxation>(
     to: &Improvement,
     text: &mut String,
 ) -> Result<(), Fail> {
-    let weight = if again { Weight::NoCost } else { Weight::Cost };
     write!(text, "again {again}")?;
+    let weight = weight_of(again);
     add_bound(alloc, bounds, blank, &to.multipliers, weight, text)?;
     add_plans(bounds, &to.picks, text)?;
     let has_cut = to.cut.is_some();
     write!(text, ", cut {has_cut}")?;
     Ok(())
+}
+
+/// Adds to a text what an improver proposes at a node below the root, with the same region and what was proposed there.
+fn add_below<R: Relaxation, I: Improver>(
+    alloc: Global,
+    bounds: &mut R,
+    blank: &Blank,
+    improver: &mut I,
+    proposed: &Improvement,
+    text: &mut String,
+) -> Result<(), Fail> {
+    let mut to = Improvement::new(alloc);
+    let again = improver.improve(&blank.below(proposed), &mut to)?;
+    add_told(alloc, bounds, blank, again, &to, text)
 }
 
 /// Adds to a text what an improver proposes at the root of a day, in so many attempts, and then at a node with the same
@@ -182,9 +201,7 @@ fn add_proposed<R: Relaxation, I: Improver>(
         add_told(alloc, bounds, blank, again, &to, text)?;
         text.push_str("; ")?;
     }
-    let mut below = Improvement::new(alloc);
-    let again = improver.improve(&blank.below(&to), &mut below)?;
-    add_told(alloc, bounds, blank, again, &below, text)
+    add_below(alloc, bounds, blank, improver, &to, text)
 }
 
 /// Adds to a text what the improver of days with so many evaluations proposes for a day with its edges.

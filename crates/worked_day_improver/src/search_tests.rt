@@ -110,20 +110,39 @@ fn a_day_that_cannot_balance_ends_without_a_branching(rt: HostRuntime) -> Result
     Ok(())
 }
 
-/// The trial day of 20 trips has a plan of cost 4880, and none that costs less.
+/// How many evaluations and branchings are granted on the trial day of 20 trips, and what is found. The day has a plan of
+/// cost 4880, and none that costs less.
+const TRIALS: &[(u32, u32, &str)] = &[(40, 0, "bounded 4878, 0"), (40, 2, "optimal 4880, 1")];
+
 #[test]
 fn plans_of_a_trial_day(rt: HostRuntime) -> Result<(), Fail> {
     let alloc = rt.alloc();
     let day = trial_instance(alloc, 7, 20)?;
-    let rows = [(40, 0, "bounded 4878, 0"), (40, 2, "optimal 4880, 1")];
-    for (evaluations, branchings, expected) in &rows {
-        let text = found_improved(alloc, &day, *evaluations, *branchings)?;
+    for (evaluations, branchings, wanted) in TRIALS {
         assert!(rt;
-            text.as_str() == *expected,
-            "{evaluations}, {branchings}: {text}"
+            is_found(alloc, &day, *evaluations, *branchings, *wanted)?,
+            "{wanted}"
         );
     }
     Ok(())
+}
+
+/// Whether this is found with the improver of days.
+fn is_found(
+    alloc: Global,
+    day: &Instance,
+    evaluations: u32,
+    branchings: u32,
+    wanted: &str,
+) -> Result<bool, Fail> {
+    let text = found_improved(alloc, day, evaluations, branchings)?;
+    Ok(text.as_str() == wanted)
+}
+
+/// Whether the same is found with an improver without evaluations as without an improver.
+fn is_found_alike(alloc: Global, day: &Instance, branchings: u32) -> Result<bool, Fail> {
+    let alone = found_alone(alloc, day, branchings)?;
+    is_found(alloc, day, 0, branchings, alone.as_str())
 }
 
 #[test]
@@ -131,9 +150,7 @@ fn no_evaluations_change_nothing(rt: HostRuntime) -> Result<(), Fail> {
     let alloc = rt.alloc();
     let day = trial_instance(alloc, 7, 10)?;
     for branchings in 0..4 {
-        let alone = found_alone(alloc, &day, branchings)?;
-        let text = found_improved(alloc, &day, 0, branchings)?;
-        assert!(rt; text.as_str() == alone.as_str(), "{branchings}: {text}");
+        assert!(rt; is_found_alike(alloc, &day, branchings)?, "{branchings}");
     }
     Ok(())
 }
@@ -147,12 +164,18 @@ struct Last {
 
 impl Watcher for Last {
     fn watch(&mut self, progress: &Progress) {
-        if let Some(before) = self.told
-            && (progress.bound < before.bound || is_dearer(progress, &before))
-        {
+        if has_fallen(progress, &self.told) {
             self.fallen = self.fallen.saturating_add(1);
         }
         self.told = Some(*progress);
+    }
+}
+
+/// Whether one has a lower bound or a dearer plan than what was told before, if anything was.
+fn has_fallen(progress: &Progress, told: &Option<Progress>) -> bool {
+    match told {
+        Some(before) => progress.bound < before.bound || is_dearer(progress, before),
+        None => false,
     }
 }
 
@@ -185,11 +208,23 @@ fn search_watched(
 fn told(alloc: Global, branchings: u32) -> Result<String, Fail> {
     let day = trial_instance(alloc, 7, 20)?;
     let graphs = Graphs::build(alloc, &day)?;
+    told_along(alloc, &day, &graphs, branchings)
+}
+
+/// What a watcher was told last in a search of a day with its edges, as a text.
+fn told_along(
+    alloc: Global,
+    day: &Instance,
+    graphs: &Graphs,
+    branchings: u32,
+) -> Result<String, Fail>
+    requires { AreGraphs day.now graphs.now }
+{
     let mut last = Last {
         told: None,
         fallen: 0,
     };
-    search_watched(alloc, &day, &graphs, branchings, &mut last)?;
+    search_watched(alloc, day, graphs, branchings, &mut last)?;
     Ok(text_of_last(alloc, &last)?)
 }
 
@@ -205,15 +240,17 @@ fn text_of_last(alloc: Global, last: &Last) -> Result<String, AllocError> {
     }
 }
 
+/// How many branchings are granted, and what a watcher is told last.
+const WATCHED: &[(u32, &str)] = &[
+    (0, "0 0 40 Some(Money(4878)) Some(Money(4880)), 0 fell"),
+    (2, "1 1 70 Some(Money(4878)) Some(Money(4880)), 0 fell"),
+];
+
 #[test]
 fn a_watcher_is_told_how_far_the_search_has_come(rt: HostRuntime) -> Result<(), Fail> {
-    let rows = [
-        (0, "0 0 40 Some(Money(4878)) Some(Money(4880)), 0 fell"),
-        (2, "1 1 70 Some(Money(4878)) Some(Money(4880)), 0 fell"),
-    ];
-    for (branchings, expected) in &rows {
+    for (branchings, wanted) in WATCHED {
         let text = told(rt.alloc(), *branchings)?;
-        assert!(rt; text.as_str() == *expected, "{branchings}: {text}");
+        assert!(rt; text.as_str() == *wanted, "{branchings}: {text}");
     }
     Ok(())
 }
