@@ -1,12 +1,14 @@
 //! Drawn days against all namings: what units are swapped for brings as many urgent ones to the depot as the best of
 //! all ways to give the trips units.
 
-ghost use Rattle.std.specs.Prelude.{◌<◌};
+ghost use Rattle.std.specs.Prelude.{◌<◌, IfOk};
+ghost use Rattle.timetable.specs.Running.{IsPlan};
+ghost use Rattle.urgent_units.specs.Wishes.{IsWish};
 
 use day_simulator::simulate;
 use rail_base::TripNo;
-use sample_days::{Texts, day_of, plan_of, table};
-use std::alloc::Global;
+use sample_days::{TURN, Texts, day_of, plan_of, table};
+use std::alloc::{AllocError, Global};
 use std::test::Fail;
 use timetable::{Instance, NamedPlan};
 use urgent_units::{Legs, Swapped, Wish, urgent};
@@ -121,8 +123,10 @@ fn namings(day: &DrawnDay) -> u32 {
 fn most_brought(day: &DrawnDay, wanted: &Wanted) -> u32 {
     let mut most = 0u32;
     for naming in 0..namings(day) {
-        if let Some(count) = brought(day, naming, wanted) {
-            most = most.max(count);
+        if let Some(count) = brought(day, naming, wanted)
+            && most < count
+        {
+            most = count;
         }
     }
     most
@@ -186,28 +190,54 @@ fn name_of(station: u32) -> &'static str {
     }
 }
 
-/// The table of the stock: as many units are wanted at each station at the end as the naming of the day brings there.
+/// How many units stand at a station at the start.
+fn units_at(day: &DrawnDay, station: u32) -> u32 {
+    match station {
+        0 => day.first,
+        1 => day.second.saturating_sub(day.first),
+        _ => UNITS.saturating_sub(day.second),
+    }
+}
+
+/// Adds the row of a station: as many units are wanted there at the end as the naming of the day brings.
+fn write_stock(text: &mut String, day: &DrawnDay, station: u32) -> Result<(), AllocError> {
+    let all = Wanted {
+        units: 15,
+        depot: station,
+    };
+    let start = units_at(day, station);
+    let end = brought(day, day.naming, &all).unwrap_or(0);
+    write!(text, "{},A,{start},{end}\n", name_of(station))
+}
+
+/// The table of the stock.
 fn stock_text(alloc: Global, day: &DrawnDay) -> Result<String, Fail> {
     let mut text = String::from_str(alloc, "station,type,start,end\n")?;
     for station in 0..3u32 {
-        let all = Wanted {
-            units: 15,
-            depot: station,
-        };
-        let start = match station {
-            0 => day.first,
-            1 => day.second.saturating_sub(day.first),
-            _ => UNITS.saturating_sub(day.second),
-        };
-        let end = brought(day, day.naming, &all).unwrap_or(0);
-        write!(text, "{},A,{start},{end}\n", name_of(station))?;
+        write_stock(&mut text, day, station)?;
     }
     Ok(text)
 }
 
-/// A minute of the day as tables have it, from ten o'clock on.
-fn clock(alloc: Global, minute: u32) -> Result<String, Fail> {
-    Ok(format!(in alloc; "{}:{}{}", minute / 60, minute % 60 / 10, minute % 10)?)
+/// Adds the row of a trip. Minutes of the day are told as tables have them, from ten o'clock on.
+fn write_trip(text: &mut String, number: u32, trip: &Trip) -> Result<(), AllocError> {
+    let (departs, arrives) = (trip.departs, trip.arrives);
+    write!(text, "T{number},{},", name_of(trip.from))?;
+    write!(
+        text,
+        "{}:{}{},",
+        departs / 60,
+        departs % 60 / 10,
+        departs % 10
+    )?;
+    write!(text, "{},", name_of(trip.to))?;
+    write!(
+        text,
+        "{}:{}{},10,100\n",
+        arrives / 60,
+        arrives % 60 / 10,
+        arrives % 10
+    )
 }
 
 /// The table of the trips.
@@ -215,15 +245,7 @@ fn trips_text(alloc: Global, day: &DrawnDay) -> Result<String, Fail> {
     let mut text = String::from_str(alloc, "trip,from,departure,to,arrival,km,demand\n")?;
     let mut number = 0u32;
     for trip in &day.trips {
-        let departs = clock(alloc, trip.departs)?;
-        let arrives = clock(alloc, trip.arrives)?;
-        let (from, to) = (name_of(trip.from), name_of(trip.to));
-        write!(
-            text,
-            "T{number},{from},{},{to},{},10,100\n",
-            departs.as_str(),
-            arrives.as_str()
-        )?;
+        write_trip(&mut text, number, trip)?;
         number = number.saturating_add(1);
     }
     Ok(text)
@@ -253,20 +275,24 @@ fn wish_text(alloc: Global, wanted: &Wanted) -> Result<String, Fail> {
     Ok(text)
 }
 
+/// The stations of each drawn day.
+const STATIONS: &[u8] = b"station,platform,reallocation\nX,200,10\nY,200,10\nZ,200,10\n";
+
+/// No drawn day has links.
+const NO_LINKS: &[u8] = b"kind,arriving,arriving2,departing,departing2,reverse,uncouple,couple\n";
+
 /// The day of the tables.
 fn instance_of(alloc: Global, day: &DrawnDay) -> Result<Instance, Fail> {
     let stock = stock_text(alloc, day)?;
     let trips = trips_text(alloc, day)?;
-    day_of(
-        alloc,
-        &Texts {
-            types: b"type,carriages,seats,metres,family\nA,3,200,80,regional\n",
-            stations: b"station,platform,reallocation\nX,200,10\nY,200,10\nZ,200,10\n",
-            stock: stock.as_bytes(),
-            trips: trips.as_bytes(),
-            links: b"kind,arriving,arriving2,departing,departing2,reverse,uncouple,couple\n",
-        },
-    )
+    let texts = Texts {
+        types: TURN.types,
+        stations: STATIONS,
+        stock: stock.as_bytes(),
+        trips: trips.as_bytes(),
+        links: NO_LINKS,
+    };
+    day_of(alloc, &texts)
 }
 
 /// The naming that a plan is, or nothing where a trip hasn't one unit.
@@ -284,47 +310,103 @@ fn naming_of(plan: &NamedPlan) -> Option<u32> {
     Some(naming)
 }
 
-/// Whether a swap brings the most that any naming brings: it says so, its plan does it, and so much is its cut worth.
+/// The plan that the naming of a day is.
+fn given_plan(alloc: Global, day: &DrawnDay, instance: &Instance) -> Result<NamedPlan, Fail>
+    ensures { IfOk result (λ plan. IsPlan instance.now plan) }
+{
+    let text = plan_text(alloc, day)?;
+    plan_of(alloc, instance, text.as_bytes())
+}
+
+/// The units that are wanted, as they are read.
+fn given_wish(alloc: Global, wanted: &Wanted, instance: &Instance) -> Result<Wish, Fail>
+    ensures { IfOk result (λ wish. IsWish instance.now wish) }
+{
+    let text = wish_text(alloc, wanted)?;
+    Ok(Wish::read(alloc, instance, table(text.as_bytes())?)?)
+}
+
+/// How many wanted units a plan brings, or nothing where it doesn't run.
+fn brought_by(day: &DrawnDay, plan: &NamedPlan, wanted: &Wanted) -> Option<u32> {
+    brought(day, naming_of(plan)?, wanted)
+}
+
+/// Whether a swap says that it brings so many, and its plan does it.
+fn brings(day: &DrawnDay, wanted: &Wanted, swapped: &Swapped, most: Option<u32>) -> bool {
+    Some(swapped.count) == most && brought_by(day, &swapped.plan, wanted) == most
+}
+
+/// Whether a swap brings the most that any naming brings, its plan runs, and so much is its cut worth.
+fn is_right_swap(
+    alloc: Global,
+    day: &DrawnDay,
+    wanted: &Wanted,
+    instance: &Instance,
+    plan: &NamedPlan,
+    wish: &Wish,
+) -> Result<bool, Fail>
+    requires plan { IsPlan instance.now plan.now }
+    requires wish { IsWish instance.now wish.now }
+{
+    let most = Some(most_brought(day, wanted));
+    let swapped = urgent(alloc, instance, plan, wish)?;
+    let legs = Legs::build(alloc, instance, plan, wish.unit_type)?;
+    let is_worth = legs.value(instance, wish, &swapped.cut) == most;
+    let runs = simulate(alloc, instance, &swapped.plan).is_ok();
+    Ok(runs && is_worth && brings(day, wanted, &swapped, most))
+}
+
+/// Whether what a drawn day's units are swapped for is right.
 fn is_right(alloc: Global, day: &DrawnDay, wanted: &Wanted) -> Result<bool, Fail> {
     let instance = instance_of(alloc, day)?;
-    let plan_table = plan_text(alloc, day)?;
-    let plan = plan_of(alloc, &instance, plan_table.as_bytes())?;
-    let wish_table = wish_text(alloc, wanted)?;
-    let wish = Wish::read(alloc, &instance, table(wish_table.as_bytes())?)?;
-    let swapped = urgent(alloc, &instance, &plan, &wish)?;
-    let legs = Legs::build(alloc, &instance, &plan, wish.unit_type)?;
-    let Some(naming) = naming_of(&swapped.plan) else {
-        return Ok(false);
+    let plan = given_plan(alloc, day, &instance)?;
+    let wish = given_wish(alloc, wanted, &instance)?;
+    is_right_swap(alloc, day, wanted, &instance, &plan, &wish)
+}
+
+/// Of the drawn days, how many bring more than their own naming does, and on how many not all wanted units are brought.
+#[derive(Clone, Copy)]
+struct Tally {
+    better: u32,
+    short: u32,
+}
+
+/// The tally with one more day.
+fn counted(tally: Tally, day: &DrawnDay, wanted: &Wanted) -> Tally {
+    let most = most_brought(day, wanted);
+    let is_better = brought(day, day.naming, wanted) != Some(most);
+    let is_short = most < wanted.units.count_ones();
+    Tally {
+        better: tally.better.saturating_add(u32::from(is_better)),
+        short: tally.short.saturating_add(u32::from(is_short)),
+    }
+}
+
+/// Draws a day and units that are wanted, counts them, and tells whether what the units are swapped for is right.
+fn is_next_right(alloc: Global, state: &mut u32, tally: &mut Tally) -> Result<bool, Fail> {
+    let day = drawn_day(alloc, state)?;
+    let wanted = Wanted {
+        units: 1 + draw(state, 15),
+        depot: draw(state, 3),
     };
-    let most = Some(most_brought(day, wanted));
-    Ok(
-        simulate(alloc, &instance, &swapped.plan).is_ok()
-            && Some(swapped.count) == most
-            && brought(day, naming, wanted) == most
-            && legs.value(&instance, &wish, &swapped.cut) == most,
-    )
+    *tally = counted(*tally, &day, &wanted);
+    is_right(alloc, &day, &wanted)
 }
 
 #[test]
 fn drawn_days_against_all_namings(rt: HostRuntime) -> Result<(), Fail> {
     let mut state = 1u32;
-    let mut better = 0u32;
-    let mut short = 0u32;
+    let mut tally = Tally {
+        better: 0,
+        short: 0,
+    };
     for number in 0..300u32 {
-        let day = drawn_day(rt.alloc(), &mut state)?;
-        let wanted = Wanted {
-            units: 1 + draw(&mut state, 15),
-            depot: draw(&mut state, 3),
-        };
-        assert!(rt; is_right(rt.alloc(), &day, &wanted)?, "day {number}");
-        let most = most_brought(&day, &wanted);
-        if brought(&day, day.naming, &wanted) != Some(most) {
-            better = better.saturating_add(1);
-        }
-        if most < wanted.units.count_ones() {
-            short = short.saturating_add(1);
-        }
+        assert!(rt;
+            is_next_right(rt.alloc(), &mut state, &mut tally)?,
+            "day {number}"
+        );
     }
+    let Tally { better, short } = tally;
     assert!(rt; better > 20 && short > 20, "{better} {short}");
     Ok(())
 }

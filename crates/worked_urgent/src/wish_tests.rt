@@ -3,11 +3,14 @@
 ghost use Rattle.std.specs.Prelude.{◌≡◌, length, IfOk};
 ghost use Rattle.timetable.specs.Running.{IsPlan};
 ghost use Rattle.urgent_units.specs.Cuts.{HasMoments};
+ghost use Rattle.urgent_units.specs.Legs.{legs_of};
+ghost use Rattle.urgent_units.specs.Wishes.{IsWish};
 
 use day_simulator::simulate;
 use rail_base::{StationNo, TypeNo};
 use sample_days::{TURN, Texts, day_of, plan_of, table};
 use std::alloc::Global;
+use std::process::Abort;
 use std::test::Fail;
 use timetable::{Instance, NamedPlan};
 use urgent_units::{Legs, Wish, YardCut};
@@ -45,29 +48,34 @@ const READ: &[(&[u8], &str)] = &[
     (b"", "WrongHeader"),
 ];
 
+/// What a wish says.
+fn told_of(alloc: Global, wish: &Wish) -> Result<String, Fail> {
+    let mut told = format!(in alloc; "type {} depot {} units", wish.unit_type.0, wish.depot.0)?;
+    for unit in wish.units.items() {
+        write!(told, " {}", unit.0)?;
+    }
+    Ok(told)
+}
+
 /// What is read of a table of urgent units.
 fn told(alloc: Global, day: &Instance, text: &[u8]) -> Result<String, Fail> {
     match Wish::read(alloc, day, table(text)?) {
-        Ok(wish) => {
-            let mut told = format!(in alloc;
-                "type {} depot {} units",
-                wish.unit_type.0, wish.depot.0
-            )?;
-            for unit in wish.units.items() {
-                write!(told, " {}", unit.0)?;
-            }
-            Ok(told)
-        }
+        Ok(wish) => told_of(alloc, &wish),
         Err(refusal) => Ok(format!(in alloc; "{refusal:?}")?),
     }
+}
+
+/// Whether so much is read of a table of urgent units.
+fn is_read(alloc: Global, day: &Instance, text: &[u8], wanted: &str) -> Result<bool, Fail> {
+    let told = told(alloc, day, text)?;
+    Ok(told.as_str() == wanted)
 }
 
 #[test]
 fn wishes_are_read(rt: HostRuntime) -> Result<(), Fail> {
     let day = day_of(rt.alloc(), &ONE_TRIP)?;
     for (text, wanted) in READ {
-        let told = told(rt.alloc(), &day, text)?;
-        assert_eq!(rt; told.as_str(), *wanted);
+        assert!(rt; is_read(rt.alloc(), &day, *text, *wanted)?, "{wanted}");
     }
     Ok(())
 }
@@ -75,7 +83,7 @@ fn wishes_are_read(rt: HostRuntime) -> Result<(), Fail> {
 /// The legs of a type's units in a plan of the day.
 fn legs_of(alloc: Global, day: &Instance, plan: &NamedPlan, unit_type: TypeNo) -> Result<Legs, Fail>
     requires { IsPlan day.now plan.now }
-    ensures { IfOk result (λ legs. legs.stations ≡ length day.now.stations) }
+    ensures { IfOk result (λ legs. legs ≡ legs_of day.now plan.now unit_type) }
 {
     match simulate(alloc, day, plan) {
         Ok(_) => Ok(Legs::build(alloc, day, plan, unit_type)?),
@@ -97,16 +105,18 @@ fn held(alloc: Global, legs: &Legs) -> Result<String, Fail> {
     Ok(told)
 }
 
+/// What is held on a day by its plan.
+fn held_on(alloc: Global, texts: &Texts<'_>, plan: &[u8]) -> Result<String, Fail> {
+    let day = day_of(alloc, texts)?;
+    let plan = plan_of(alloc, &day, plan)?;
+    let legs = legs_of(alloc, &day, &plan, TypeNo(0))?;
+    held(alloc, &legs)
+}
+
 #[test]
 fn legs_are_told(rt: HostRuntime) -> Result<(), Fail> {
-    let day = day_of(rt.alloc(), &ONE_TRIP)?;
-    let plan = plan_of(rt.alloc(), &day, PLAN)?;
-    let legs = legs_of(rt.alloc(), &day, &plan, TypeNo(0))?;
-    let held = held(rt.alloc(), &legs)?;
-    assert_eq!(rt;
-        held.as_str(),
-        "station 0 moments 2 1 1\nstation 1 moments 0 1 1\n"
-    );
+    let held = held_on(rt.alloc(), &ONE_TRIP, PLAN)?;
+    assert!(rt; held.as_str() == "station 0 moments 2 1 1\nstation 1 moments 0 1 1\n");
     Ok(())
 }
 
@@ -144,15 +154,44 @@ fn cut_of(alloc: Global, legs: &Legs, moments: &[(u32, u32)]) -> Result<YardCut,
     Ok(cut)
 }
 
+/// What the set of these moments is worth.
+fn worth(
+    alloc: Global,
+    day: &Instance,
+    wish: &Wish,
+    legs: &Legs,
+    moments: &[(u32, u32)],
+) -> Result<Option<u32>, Fail>
+    requires wish { IsWish day.now wish.now }
+    requires stations { length day.now.stations ≡ legs.now.stations }
+{
+    let cut = cut_of(alloc, legs, moments)?;
+    Ok(legs.value(day, wish, &cut))
+}
+
+/// Each set of moments is worth what it is to be.
+fn are_worth(
+    rt: &impl Abort,
+    alloc: Global,
+    day: &Instance,
+    wish: &Wish,
+    legs: &Legs,
+) -> Result<(), Fail>
+    requires wish { IsWish day.now wish.now }
+    requires stations { length day.now.stations ≡ legs.now.stations }
+{
+    for (moments, wanted) in CUTS {
+        let worth = worth(alloc, day, wish, legs, *moments)?;
+        assert!(rt; worth == *wanted);
+    }
+    Ok(())
+}
+
 #[test]
 fn cuts_are_worth_what_crosses(rt: HostRuntime) -> Result<(), Fail> {
     let day = day_of(rt.alloc(), &ONE_TRIP)?;
     let plan = plan_of(rt.alloc(), &day, PLAN)?;
     let wish = Wish::read(rt.alloc(), &day, b"unit,depot\n0,Y\n1,Y\n")?;
     let legs = legs_of(rt.alloc(), &day, &plan, wish.unit_type)?;
-    for (moments, wanted) in CUTS {
-        let cut = cut_of(rt.alloc(), &legs, moments)?;
-        assert_eq!(rt; legs.value(&day, &wish, &cut), *wanted);
-    }
-    Ok(())
+    are_worth(&rt, rt.alloc(), &day, &wish, &legs)
 }
