@@ -32,11 +32,11 @@ pub(crate) struct Directions {
 
 /// What a step along a deflected direction asks for.
 #[derive(Clone, Copy)]
-pub(crate) struct Deflected {
+struct Deflected {
     /// The sum of the squares of its entries, each times the weight of its index.
-    pub norm: i128,
+    norm: i128,
     /// Whether the subgradient is 0: no slack would move a multiplier.
-    pub is_zero: bool,
+    is_zero: bool,
 }
 
 impl Directions {
@@ -61,8 +61,17 @@ impl Directions {
         clear(&mut self.average);
     }
 
+    /// Deflects the direction by the slacks of an evaluation, and moves scaled multipliers along it so far that a value
+    /// would rise by a gap, were it to go on as it began. Tells whether the subgradient is 0: no slack would move a
+    /// multiplier.
+    pub(crate) fn follow(&mut self, slacks: &[i64], gap: i128, scaled: &mut [i64]) -> bool {
+        let deflected = self.deflect(scaled, slacks);
+        self.step(deflected.norm, gap, scaled);
+        deflected.is_zero
+    }
+
     /// Deflects the direction by the slacks of an evaluation.
-    pub(crate) fn deflect(&mut self, scaled: &[i64], slacks: &[i64]) -> Deflected {
+    fn deflect(&mut self, scaled: &[i64], slacks: &[i64]) -> Deflected {
         let mut deflected = Deflected {
             norm: 0,
             is_zero: true,
@@ -121,7 +130,7 @@ impl Directions {
 
     /// Moves scaled multipliers along the direction so far that a value would rise by a gap, were it to go on as it
     /// began.
-    pub(crate) fn step(&self, norm: i128, gap: i128, scaled: &mut [i64]) {
+    fn step(&self, norm: i128, gap: i128, scaled: &mut [i64]) {
         let factor = gap.max(1).saturating_mul(i128::from(SLACK_SCALE));
         let norm = norm.max(1);
         for index in 0..self.direction.len() {

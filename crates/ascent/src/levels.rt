@@ -32,6 +32,15 @@ impl Level {
         self.height = height.max(i128::from(ONE));
     }
 
+    /// By how much a step gains enough, on a long day or on a short one.
+    pub(crate) fn enough(&self, is_long: bool) -> i128 {
+        if is_long {
+            self.height / 16
+        } else {
+            self.height / 8
+        }
+    }
+
     /// Counts a step that gained enough or did not.
     pub(crate) fn count(&mut self, gained: bool) {
         if gained {

@@ -28,8 +28,9 @@ fn kept(value: i64) -> i64 {
 pub(crate) fn put_whole(layout: &Layout, scaled: &[i64], whole: &mut [i64]) {
     clear(whole);
     for place in 0..layout.yards.len() {
-        round_yard(layout.yards[place], scaled, whole);
-        merge_yard(layout, layout.yards[place], whole);
+        let yard = layout.yards[place];
+        round_yard(yard, scaled, whole);
+        merge_yard(layout, yard, whole);
     }
     for index in layout.parts_from..layout.indices.min(whole.len()) {
         put(whole, index, kept(rounded(entry(scaled, index))));
@@ -62,11 +63,16 @@ fn merge_yard(layout: &Layout, yard: YardIndices, whole: &mut [i64]) {
             } else {
                 yard.end
             };
-            let value = entry(whole, next).saturating_add(entry(whole, index));
-            put(whole, next, kept(value));
-            put(whole, index, 0);
+            merge(whole, index, next);
         }
     }
+}
+
+/// Adds a whole multiplier to another one, and sets it to 0.
+fn merge(whole: &mut [i64], from: usize, to: usize) {
+    let value = entry(whole, to).saturating_add(entry(whole, from));
+    put(whole, to, kept(value));
+    put(whole, from, 0);
 }
 
 /// Takes the smallest multipliers of minutes and hand-overs out until no more than 1,000 are left. That of a minute is
@@ -81,8 +87,7 @@ fn drop_smallest(layout: &Layout, whole: &mut [i64]) {
             break;
         };
         if let Some(earlier) = earlier_in_yard(layout, whole, index) {
-            let value = entry(whole, earlier).saturating_add(entry(whole, index));
-            put(whole, earlier, kept(value));
+            merge(whole, index, earlier);
         }
         put(whole, index, 0);
         left -= 1;

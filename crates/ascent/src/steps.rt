@@ -34,18 +34,93 @@ pub enum Step {
 pub struct Ascent {
     layout: Layout,
     scaled: Vec<i64>,
-    whole: Vec<i64>,
-    slack_at: Vec<i64>,
     directions: Directions,
     level: Level,
     is_long: bool,
+    last: Evaluation,
+    best: Best,
+}
+
+/// The last evaluation of the bound.
+#[derive(Drop)]
+struct Evaluation {
+    /// The whole multiplier of each index.
+    whole: Vec<i64>,
+    /// Those that are not 0.
     multipliers: Multipliers,
+    /// The picks of the least priced value.
     picks: Picks,
+    /// Their slacks.
     slacks: Slacks,
-    best: Option<i128>,
-    best_scaled: Vec<i64>,
-    best_multipliers: Multipliers,
-    best_picks: Picks,
+    /// The slack of each index, 0 where there is none.
+    slack_at: Vec<i64>,
+}
+
+impl Evaluation {
+    /// Room for an evaluation at so many indices, of so many trips. The error is want of memory.
+    fn new(alloc: Global, indices: usize, trips: u32) -> Result<Evaluation, NoMemory> {
+        Ok(Evaluation {
+            whole: vec![in alloc; 0; indices]?,
+            multipliers: Multipliers::new(alloc)?,
+            picks: Picks::new(alloc, trips)?,
+            slacks: Slacks::new(alloc)?,
+            slack_at: vec![in alloc; 0; indices]?,
+        })
+    }
+
+    /// Evaluates the bound at the whole multipliers, with cost or without, and its slacks; nothing where no picks are
+    /// near the region, or something is not of the relaxation's size. The value is scaled.
+    fn take<R: Relaxation>(
+        &mut self,
+        bounds: &mut R,
+        region: &Region,
+        weight: Weight,
+    ) -> Option<i128>
+        ensures same { R.problem bounds.new ≡ R.problem bounds.old }
+    {
+        fill(&mut self.multipliers, &self.whole);
+        let value = bound_of(bounds, region, &self.multipliers, weight, &mut self.picks)?;
+        if !put_slacks(bounds, &self.picks, &mut self.slacks) {
+            return None;
+        }
+        spread(&self.slacks, &mut self.slack_at);
+        Some(scaled(value.0))
+    }
+}
+
+/// The best evaluation of the bound.
+#[derive(Drop)]
+struct Best {
+    /// The value, scaled: nothing before the first evaluation.
+    value: Option<i128>,
+    /// The scaled multiplier of each index.
+    scaled: Vec<i64>,
+    /// The whole multipliers that are not 0.
+    multipliers: Multipliers,
+    /// The picks of the least priced value.
+    picks: Picks,
+}
+
+impl Best {
+    /// Room for an evaluation at so many indices, of so many trips. The error is want of memory.
+    fn new(alloc: Global, indices: usize, trips: u32) -> Result<Best, NoMemory> {
+        Ok(Best {
+            value: None,
+            scaled: vec![in alloc; 0; indices]?,
+            multipliers: Multipliers::new(alloc)?,
+            picks: Picks::new(alloc, trips)?,
+        })
+    }
+
+    /// Takes over the last evaluation, at these scaled multipliers.
+    fn keep(&mut self, value: i128, scaled: &[i64], last: &Evaluation) {
+        self.value = Some(value);
+        copy(&mut self.scaled, scaled);
+        fill(&mut self.multipliers, &last.whole);
+        if self.picks.len() == last.picks.len() {
+            self.picks.copy_from(&last.picks);
+        }
+    }
 }
 
 impl Ascent {
@@ -60,18 +135,11 @@ impl Ascent {
         let is_long = trips > MAX_TRIPS_OF_SHORT_DAYS;
         Ok(Ascent {
             scaled: vec![in alloc; 0; indices]?,
-            whole: vec![in alloc; 0; indices]?,
-            slack_at: vec![in alloc; 0; indices]?,
             directions: Directions::new(alloc, indices, layout.free_from, is_long)?,
             level: Level::new(patience),
             is_long,
-            multipliers: Multipliers::new(alloc)?,
-            picks: Picks::new(alloc, trips)?,
-            slacks: Slacks::new(alloc)?,
-            best: None,
-            best_scaled: vec![in alloc; 0; indices]?,
-            best_multipliers: Multipliers::new(alloc)?,
-            best_picks: Picks::new(alloc, trips)?,
+            last: Evaluation::new(alloc, indices, trips)?,
+            best: Best::new(alloc, indices, trips)?,
             layout,
         })
     }
@@ -85,7 +153,7 @@ impl Ascent {
         }
         self.directions.clear();
         self.level = Level::new(patience);
-        self.best = None;
+        self.best.value = None;
     }
 
     /// One evaluation of the bound, and a step from there. The incumbent is what the best plan costs. The problem that
@@ -101,36 +169,24 @@ impl Ascent {
         let Some(value) = self.evaluate(bounds, region, Weight::Cost) else {
             return Step::Empty;
         };
-        let incumbent = incumbent.map(|cost| scaled(cost.0));
-        let before = self.best;
+        let incumbent = scaled_cost(incumbent);
+        let before = self.best.value;
         if before.is_none() {
             self.level.begin(value, incumbent);
         }
-        let enough = if self.is_long {
-            self.level.height / 16
-        } else {
-            self.level.height / 8
-        };
-        let gained = match before {
-            None => true,
-            Some(best) => value > best.saturating_add(enough),
-        };
-        self.level.count(gained);
-        let is_best = match before {
-            None => true,
-            Some(best) => value > best,
-        };
-        if is_best {
-            self.keep(value);
+        let enough = self.level.enough(self.is_long);
+        self.level.count(is_over(value, before, enough));
+        if is_over(value, before, 0) {
+            self.best.keep(value, &self.scaled, &self.last);
         }
         self.advance(value, incumbent)
     }
 
     /// Begins anew from the best multipliers, to look for a ray.
     pub fn restart_for_ray(&mut self) {
-        copy(&mut self.scaled, &self.best_scaled);
+        copy(&mut self.scaled, &self.best.scaled);
         self.directions.clear();
-        self.best = None;
+        self.best.value = None;
     }
 
     /// One evaluation of the bound without cost, and a step from there. Where the best value is positive, the best
@@ -141,27 +197,24 @@ impl Ascent {
         let Some(value) = self.evaluate(bounds, region, Weight::NoCost) else {
             return Step::Empty;
         };
-        let best = match self.best {
-            None => value,
-            Some(best) => best.max(value),
-        };
-        if self.best != Some(best) {
-            self.keep(value);
+        if is_over(value, self.best.value, 0) {
+            self.best.keep(value, &self.scaled, &self.last);
         }
-        let deflected = self.directions.deflect(&self.scaled, &self.slack_at);
+        let best = self.best.value.unwrap_or(value);
         // Without cost no value is the greatest where one is positive, so that any target above 0 serves.
         let target = best.max(0).saturating_add(scaled(RAY_LEVEL));
         let gap = target.saturating_sub(value);
-        self.directions.step(deflected.norm, gap, &mut self.scaled);
-        if deflected.is_zero {
+        if self
+            .directions
+            .follow(&self.last.slack_at, gap, &mut self.scaled)
+        {
             Step::Met
         } else {
             Step::More
         }
     }
 
-    /// Evaluates the bound at the whole multipliers, with cost or without, and its slacks; nothing where no picks are
-    /// near the region, or something is not of the relaxation's size. The value is scaled.
+    /// Rounds the scaled multipliers, and evaluates the bound there: see `Evaluation::take`.
     fn evaluate<R: Relaxation>(
         &mut self,
         bounds: &mut R,
@@ -170,44 +223,26 @@ impl Ascent {
     ) -> Option<i128>
         ensures same { R.problem bounds.new ≡ R.problem bounds.old }
     {
-        put_whole(&self.layout, &self.scaled, &mut self.whole);
-        fill(&mut self.multipliers, &self.whole);
-        let value = bound_of(bounds, region, &self.multipliers, weight, &mut self.picks)?;
-        if !put_slacks(bounds, &self.picks, &mut self.slacks) {
-            return None;
-        }
-        spread(&self.slacks, &mut self.slack_at);
-        Some(scaled(value.0))
-    }
-
-    /// Keeps the last evaluation as the best one.
-    fn keep(&mut self, value: i128) {
-        self.best = Some(value);
-        copy(&mut self.best_scaled, &self.scaled);
-        fill(&mut self.best_multipliers, &self.whole);
-        if self.best_picks.len() == self.picks.len() {
-            self.best_picks.copy_from(&self.picks);
-        }
+        put_whole(&self.layout, &self.scaled, &mut self.last.whole);
+        self.last.take(bounds, region, weight)
     }
 
     /// Moves on from the last evaluation, or from the best one where the steps have become stale.
     fn advance(&mut self, value: i128, incumbent: Option<i128>) -> Step {
-        let best = match self.best {
-            Some(best) => best,
-            None => value,
-        };
+        let best = self.best.value.unwrap_or(value);
         let mut from = value;
         let has_returned = self.level.is_stale();
         if has_returned {
             self.level.lower(best, incumbent);
-            copy(&mut self.scaled, &self.best_scaled);
+            copy(&mut self.scaled, &self.best.scaled);
             from = best;
         }
-        let deflected = self.directions.deflect(&self.scaled, &self.slack_at);
         let gap = self.level.target(best, incumbent).saturating_sub(from);
-        self.directions.step(deflected.norm, gap, &mut self.scaled);
+        let is_zero = self
+            .directions
+            .follow(&self.last.slack_at, gap, &mut self.scaled);
         // After a return the slacks are not those of the multipliers that are stepped from.
-        if deflected.is_zero && !has_returned {
+        if is_zero && !has_returned {
             Step::Met
         } else {
             Step::More
@@ -216,28 +251,41 @@ impl Ascent {
 
     /// The multipliers of the last evaluation.
     pub fn multipliers(&self) -> &Multipliers {
-        &self.multipliers
+        &self.last.multipliers
     }
 
     /// The multipliers of the best evaluation.
     pub fn best_multipliers(&self) -> &Multipliers {
-        &self.best_multipliers
+        &self.best.multipliers
     }
 
     /// The picks of the last evaluation.
     pub fn picks(&self) -> &Picks {
-        &self.picks
+        &self.last.picks
     }
 
     /// The picks of the best evaluation.
     pub fn best_picks(&self) -> &Picks {
-        &self.best_picks
+        &self.best.picks
     }
 
     /// The least whole cost that the best value allows: nothing before the first evaluation.
     pub fn bound(&self) -> Option<Money> {
-        let best = self.best?;
+        let best = self.best.value?;
         Some(Money(rounded_up(best)))
+    }
+}
+
+/// What a plan costs, scaled.
+fn scaled_cost(cost: Option<Money>) -> Option<i128> {
+    Some(scaled(cost?.0))
+}
+
+/// Whether a value is over the best one, where there is one, by more than so much.
+fn is_over(value: i128, best: Option<i128>, enough: i128) -> bool {
+    match best {
+        Some(best) => value > best.saturating_add(enough),
+        None => true,
     }
 }
 
