@@ -68,47 +68,101 @@ pub(crate) fn network_of(
 ) -> Result<Network, NoMemory>
     requires { AreGraphs instance.now graphs.now }
 {
-    let clusters = clusters_of(alloc, instance)?;
-    let trips = trips_of(alloc, instance)?;
-    let units = units_of(alloc, instance)?;
-    let costs = costs_of(alloc, instance, guide)?;
-    let stations = vec![in alloc; 0; clusters.count]?;
-    let links = vec![in alloc; NO_LINK; instance.links() as usize]?;
-    let edges = vec![in alloc; NO_EDGE; edge_count(instance, graphs)]?;
-    let events = vec![in alloc; NO_EVENT; event_count(instance)]?;
-    let mut network = Network {
-        types: instance.types().len() as usize,
-        comps: instance.catalogue().len(),
-        clusters: clusters.count,
-        trips,
-        links,
-        edges,
-        edge_begins: Vec::new(alloc),
-        units,
-        places: Vec::new(alloc),
-        yards: Vec::new(alloc),
-        costs,
-        events,
-        stations,
-    };
+    let mut network = empty_network(alloc, instance);
+    add_tables(alloc, &mut network, instance, guide)?;
     add_yards(&mut network, instance)?;
+    make_room(alloc, &mut network, instance, graphs)?;
     add_links(&mut network, instance, graphs, guide)?;
-    set_clusters(&mut network, instance, &clusters);
+    add_clusters(alloc, &mut network, instance)?;
     add_events(alloc, &mut network, instance)?;
     Ok(network)
 }
 
+/// The network of a day without its tables.
+fn empty_network(alloc: Global, instance: &Instance) -> Network {
+    Network {
+        types: instance.types().len() as usize,
+        comps: instance.catalogue().len(),
+        clusters: 0,
+        trips: Vec::new(alloc),
+        links: Vec::new(alloc),
+        edges: Vec::new(alloc),
+        edge_begins: Vec::new(alloc),
+        units: Vec::new(alloc),
+        places: Vec::new(alloc),
+        yards: Vec::new(alloc),
+        costs: Vec::new(alloc),
+        events: Vec::new(alloc),
+        stations: Vec::new(alloc),
+    }
+}
+
+/// Adds the trips without their clusters, the units of the compositions, and the costs. The error is want of memory.
+fn add_tables(
+    alloc: Global,
+    network: &mut Network,
+    instance: &Instance,
+    guide: &PriceGuide,
+) -> Result<(), NoMemory> {
+    network.trips = trips_of(alloc, instance)?;
+    network.units = units_of(alloc, instance)?;
+    network.costs = costs_of(alloc, instance, guide)?;
+    Ok(())
+}
+
+/// Makes room for the links, their edges and the events. The error is want of memory.
+fn make_room(
+    alloc: Global,
+    network: &mut Network,
+    instance: &Instance,
+    graphs: &Graphs,
+) -> Result<(), NoMemory>
+    requires { AreGraphs instance.now graphs.now }
+{
+    network.links = vec![in alloc; NO_LINK; instance.links() as usize]?;
+    network.edges = vec![in alloc; NO_EDGE; edge_count(instance, graphs)]?;
+    network.events = vec![in alloc; NO_EVENT; event_count(instance)]?;
+    Ok(())
+}
+
+/// Adds the clusters of the trips, and their stations. The error is want of memory.
+fn add_clusters(alloc: Global, network: &mut Network, instance: &Instance) -> Result<(), NoMemory> {
+    let clusters = clusters_of(alloc, instance)?;
+    network.clusters = clusters.count;
+    network.stations = vec![in alloc; 0; clusters.count]?;
+    set_clusters(network, instance, &clusters);
+    Ok(())
+}
+
 /// The clusters of the chains: hand-overs join those of their two trains. The error is want of memory.
 fn clusters_of(alloc: Global, instance: &Instance) -> Result<Clusters, NoMemory> {
+    let chain_of = chains_of_trips(alloc, instance)?;
+    let mut clusters = Clusters::new(alloc, instance.chains() as usize)?;
+    join_handovers(&mut clusters, instance, &chain_of);
+    clusters.number();
+    Ok(clusters)
+}
+
+/// The chain of each trip. The error is want of memory.
+fn chains_of_trips(alloc: Global, instance: &Instance) -> Result<Vec<usize>, NoMemory> {
     let mut chain_of = vec![in alloc; 0; instance.trips() as usize]?;
     for chain in 0..instance.chains() {
-        for trip in instance.chain(chain) {
-            if trip.place() < chain_of.len() {
-                chain_of[trip.place()] = chain as usize;
-            }
+        put_chain(&mut chain_of, instance.chain(chain), chain as usize);
+    }
+    Ok(chain_of)
+}
+
+/// Sets the chain of the trips of one.
+fn put_chain(chain_of: &mut [usize], trips: &[TripNo], chain: usize) {
+    for trip in trips {
+        if trip.place() < chain_of.len() {
+            chain_of[trip.place()] = chain;
         }
     }
-    let mut clusters = Clusters::new(alloc, instance.chains() as usize)?;
+}
+
+/// Joins the clusters of the two trains of each hand-over.
+fn join_handovers(clusters: &mut Clusters, instance: &Instance, chain_of: &[usize]) {
     for number in 0..instance.handovers() {
         let handover = instance.handover(number);
         if handover.link.0 < instance.links() {
@@ -118,8 +172,6 @@ fn clusters_of(alloc: Global, instance: &Instance) -> Result<Clusters, NoMemory>
             clusters.join(chain, other);
         }
     }
-    clusters.number();
-    Ok(clusters)
 }
 
 /// The rows of the trips, without their clusters. The error is want of memory.
@@ -415,27 +467,42 @@ fn note_station(stations: &mut [u64], cluster: usize, station: StationNo) {
 /// memory.
 fn add_events(alloc: Global, network: &mut Network, instance: &Instance) -> Result<(), NoMemory> {
     let mut minutes = Vec::new(alloc);
+    add_starts(network, &mut minutes, instance)?;
+    add_link_events(network, &mut minutes, instance)
+}
+
+/// Adds the starts of all trips that have an event of their own. The error is want of memory.
+fn add_starts(
+    network: &mut Network,
+    minutes: &mut Vec<Minute>,
+    instance: &Instance,
+) -> Result<(), NoMemory> {
     for trip in 0..instance.trips() {
         let trip = TripNo(trip);
         if let Some(row) = network.trip(trip)
             && row.incoming.is_none()
         {
             let event = start_event(network, row, trip);
-            insert_event(network, &mut minutes, instance.trip(trip).departure, event)?;
+            insert_event(network, minutes, instance.trip(trip).departure, event)?;
         }
     }
+    Ok(())
+}
+
+/// Adds the events of all links. The error is want of memory.
+fn add_link_events(
+    network: &mut Network,
+    minutes: &mut Vec<Minute>,
+    instance: &Instance,
+) -> Result<(), NoMemory> {
     for number in 0..instance.links() {
         let number = LinkNo(number);
         if let Some(link) = network.link(number)
             && let Some(row) = network.trip(link.departing)
         {
             let event = link_event(network, link, row, number);
-            insert_event(
-                network,
-                &mut minutes,
-                minute_of(instance, instance.link(number)),
-                event,
-            )?;
+            let minute = minute_of(instance, instance.link(number));
+            insert_event(network, minutes, minute, event)?;
         }
     }
     Ok(())

@@ -26,16 +26,22 @@ pub(crate) fn layout_of(
         yards,
         instance.indices() as usize,
     )?;
+    add_yards(&mut layout, instance, types)?;
+    for trip in 0..instance.trips() {
+        mark_given(&mut layout, instance, graphs, TripNo(trip));
+    }
+    Ok(layout)
+}
+
+/// Adds all stations with so many types. The error is want of memory.
+fn add_yards(layout: &mut Layout, instance: &Instance, types: usize) -> Result<(), NoMemory> {
     for station in 0..instance.stations() {
         let places = instance.minutes(StationNo(station)).len();
         for _ in 0..types {
             layout.add_yard(places)?;
         }
     }
-    for trip in 0..instance.trips() {
-        mark_given(&mut layout, instance, graphs, TripNo(trip));
-    }
-    Ok(layout)
+    Ok(())
 }
 
 /// Marks the departure minute before that at which what a trip gives is ready.

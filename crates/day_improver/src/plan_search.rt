@@ -27,16 +27,84 @@ const MAX_FREED_BELOW: u32 = 5;
 /// Plans of a day, and the room in which they are changed.
 #[derive(Drop)]
 pub(crate) struct PlanSearch {
-    network: Network,
-    chains: Chains,
-    guide: PriceGuide,
+    day: PricedDay,
     room: MoveRoom,
     plans: Plans,
-    draws: Draws,
+    pace: Pace,
     has_begun: bool,
+}
+
+/// A day as moves see it, under the last prices.
+#[derive(Drop)]
+struct PricedDay {
+    network: Network,
+    guide: PriceGuide,
+    chains: Chains,
+}
+
+impl PricedDay {
+    /// A day with its edges, at its costs. The error is want of memory.
+    fn new(
+        alloc: Global,
+        instance: &Instance,
+        graphs: &Graphs,
+        bounds: &mut DayBounds<'_>,
+    ) -> Result<PricedDay, NoMemory>
+        requires { AreGraphs instance.now graphs.now }
+    {
+        let guide = cost_guide(alloc, instance, graphs, bounds)?;
+        let network = network_of(alloc, instance, graphs, &guide)?;
+        let chains = Chains::new(alloc, instance)?;
+        Ok(PricedDay {
+            network,
+            guide,
+            chains,
+        })
+    }
+}
+
+/// How many moves were made.
+#[derive(Clone, Copy)]
+struct Pace {
+    /// All of them.
     made: u32,
+    /// Those in turn that gained nothing.
     stalled: u32,
+    /// Those that built all anew while a plan had violations.
     rebuilt: u32,
+}
+
+/// What the next move does.
+#[derive(Clone, Copy)]
+struct NextMove {
+    /// Whether it builds all anew.
+    is_whole: bool,
+    /// Whether labels are told apart by lists, too.
+    by_lists: bool,
+}
+
+impl Pace {
+    /// Counts a move from a plan, which has violations or none, and tells what it does.
+    fn count(&mut self, has_violations: bool) -> NextMove {
+        self.made = self.made.saturating_add(1);
+        self.stalled = self.stalled.saturating_add(1);
+        let is_whole = has_violations && self.stalled >= MAX_STALLED;
+        if !is_whole {
+            return NextMove {
+                is_whole,
+                by_lists: self.made % 4 != 0,
+            };
+        }
+        let by_lists = self.rebuilt % 2 != 0;
+        self.stalled = 0;
+        self.rebuilt = self.rebuilt.saturating_add(1);
+        NextMove { is_whole, by_lists }
+    }
+
+    /// How many clusters the next move frees at most, where it does not free all.
+    fn most_freed(&self) -> u32 {
+        MAX_FREED.min((self.stalled / MAX_STALLED).saturating_add(3))
+    }
 }
 
 /// The room in which moves are made.
@@ -46,6 +114,7 @@ struct MoveRoom {
     weights: Weights,
     /// For each cluster whether the move frees it.
     freed: Vec<bool>,
+    draws: Draws,
 }
 
 impl MoveRoom {
@@ -58,6 +127,7 @@ impl MoveRoom {
             beam,
             weights,
             freed,
+            draws: Draws::new(),
         })
     }
 
@@ -86,6 +156,39 @@ impl MoveRoom {
     fn clusters(&self) -> u32 {
         u32::try_from(self.freed.len()).unwrap_or(u32::MAX)
     }
+
+    /// Frees clusters, as many as are drawn up to so many, which may be the same: in the first manner drawn alike, in
+    /// the second by weight for the first one and alike for the others, in the third by weight.
+    fn free_drawn(&mut self, manner: u32, most: u32) {
+        self.free_none();
+        let clusters = self.clusters();
+        let count = self.draws.below(clusters.min(most)).saturating_add(1);
+        for number in 0..count {
+            let alike = manner == 0 || (manner == 1 && number > 0);
+            let cluster = if alike {
+                self.draws.below(clusters) as usize
+            } else {
+                self.by_weight()
+            };
+            self.free(cluster);
+        }
+    }
+
+    /// A cluster drawn by weight.
+    fn by_weight(&mut self) -> usize {
+        let number = self.draws.below_wide(self.weights.sum());
+        self.weights.cluster_at(number)
+    }
+
+    /// Weighs the clusters for a manner of drawing them.
+    fn weigh(&mut self, manner: u32, day: &PricedDay, plan: &Plan) {
+        if manner == 2 && plan.violations != 0 {
+            self.weights.by_broken_stations(&day.network, plan);
+        } else if manner != 0 {
+            self.weights
+                .by_regret(&day.network, &day.guide, plan, &day.chains);
+        }
+    }
 }
 
 /// The plans between which moves go.
@@ -111,6 +214,50 @@ impl Plans {
             best,
         })
     }
+
+    /// Goes on to the plan that the last move came to.
+    fn go_on(&mut self) {
+        mem::swap(&mut self.current, &mut self.after);
+    }
+
+    /// Whether the last move came to a better plan.
+    fn has_gained(&self) -> bool {
+        self.after.is_less(&self.current)
+    }
+
+    /// Whether the last move came to a worse plan.
+    fn has_lost(&self) -> bool {
+        self.current.is_less(&self.after)
+    }
+
+    /// Keeps the current plan as the best one.
+    fn keep(&mut self) {
+        self.best.copy_from(&self.current);
+    }
+
+    /// Keeps the current plan as the best one, where it is.
+    fn keep_best(&mut self) {
+        if self.current.is_less(&self.best) {
+            self.keep();
+        }
+    }
+
+    /// Takes over picks that follow.
+    fn set_current(&mut self, network: &Network, picks: &Picks) {
+        for trip in 0..picks.len() {
+            self.current.set(TripNo(trip), picks.get(TripNo(trip)));
+        }
+        self.current.count(network);
+    }
+
+    /// What the best plan costs, where it has no violations.
+    fn incumbent(&self) -> Option<Money> {
+        if self.best.violations == 0 {
+            Some(Money(i128::from(self.best.cost)))
+        } else {
+            None
+        }
+    }
 }
 
 impl PlanSearch {
@@ -123,34 +270,31 @@ impl PlanSearch {
     ) -> Result<PlanSearch, NoMemory>
         requires { AreGraphs instance.now graphs.now }
     {
-        let guide = cost_guide(alloc, instance, graphs, bounds)?;
-        let network = network_of(alloc, instance, graphs, &guide)?;
-        let chains = Chains::new(alloc, instance)?;
-        let room = MoveRoom::new(alloc, &network)?;
-        let plans = Plans::new(alloc, &network)?;
+        let day = PricedDay::new(alloc, instance, graphs, bounds)?;
+        let room = MoveRoom::new(alloc, &day.network)?;
+        let plans = Plans::new(alloc, &day.network)?;
         Ok(PlanSearch {
-            network,
-            chains,
-            guide,
+            day,
             room,
             plans,
-            draws: Draws::new(),
+            pace: Pace {
+                made: 0,
+                stalled: 0,
+                rebuilt: 0,
+            },
             has_begun: false,
-            made: 0,
-            stalled: 0,
-            rebuilt: 0,
         })
     }
 
     /// The day as moves see it.
     pub(crate) fn network(&self) -> &Network {
-        &self.network
+        &self.day.network
     }
 
     /// What the best plan costs, where it has no violations.
     pub(crate) fn incumbent(&self) -> Option<Money> {
-        if self.has_begun && self.plans.best.violations == 0 {
-            Some(Money(i128::from(self.plans.best.cost)))
+        if self.has_begun {
+            self.plans.incumbent()
         } else {
             None
         }
@@ -172,7 +316,7 @@ impl PlanSearch {
         region: &Region,
         multipliers: &Multipliers,
     ) {
-        price(bounds, region, multipliers, &mut self.guide);
+        price(bounds, region, multipliers, &mut self.day.guide);
     }
 
     /// Whether there is a plan to move from.
@@ -183,80 +327,52 @@ impl PlanSearch {
     /// Begins with picks that follow, and builds all anew by a beam of width 1.
     pub(crate) fn begin(&mut self, picks: &Picks) {
         self.has_begun = true;
-        self.set_current(picks);
-        self.plans.best.copy_from(&self.plans.current);
+        self.plans.set_current(&self.day.network, picks);
+        self.plans.keep();
         self.room.free_all();
         if self.rebuild(1, true) {
-            mem::swap(&mut self.plans.current, &mut self.plans.after);
+            self.plans.go_on();
         }
-        self.keep_best();
+        self.plans.keep_best();
     }
 
     /// Goes on from picks that follow.
     pub(crate) fn go_on_from(&mut self, picks: &Picks) {
-        self.set_current(picks);
+        self.plans.set_current(&self.day.network, picks);
         if !self.has_begun {
             self.has_begun = true;
-            self.plans.best.copy_from(&self.plans.current);
+            self.plans.keep();
         }
-        self.keep_best();
-    }
-
-    /// Takes over picks that follow.
-    fn set_current(&mut self, picks: &Picks) {
-        for trip in 0..picks.len() {
-            self.plans
-                .current
-                .set(TripNo(trip), picks.get(TripNo(trip)));
-        }
-        self.plans.current.count(&self.network);
+        self.plans.keep_best();
     }
 
     /// Makes a move, and takes its plan where it is no worse, or all was built anew.
     pub(crate) fn take_move(&mut self) {
-        self.made = self.made.saturating_add(1);
-        self.stalled = self.stalled.saturating_add(1);
-        let is_whole = self.plans.current.violations != 0 && self.stalled >= MAX_STALLED;
-        let by_lists = if is_whole {
-            self.rebuilt % 2 != 0
-        } else {
-            self.made % 4 != 0
-        };
-        if is_whole {
-            self.stalled = 0;
-            self.rebuilt = self.rebuilt.saturating_add(1);
+        let next = self.pace.count(self.plans.current.violations != 0);
+        if next.is_whole {
             self.room.free_all();
         } else {
             self.free_some();
         }
-        if !self.rebuild(WIDTH, by_lists) {
+        if !self.rebuild(WIDTH, next.by_lists) {
             return;
         }
-        if self.plans.after.is_less(&self.plans.current) {
-            self.stalled = 0;
+        if self.plans.has_gained() {
+            self.pace.stalled = 0;
         }
-        if is_whole || !self.plans.current.is_less(&self.plans.after) {
-            mem::swap(&mut self.plans.current, &mut self.plans.after);
+        if next.is_whole || !self.plans.has_lost() {
+            self.plans.go_on();
         }
-        self.keep_best();
+        self.plans.keep_best();
     }
 
     /// Makes a move that frees few clusters, drawn alike, and takes its plan where it is better.
     pub(crate) fn take_small_move(&mut self) {
-        self.room.free_none();
-        let clusters = self.room.clusters();
-        let count = self
-            .draws
-            .below(clusters.min(MAX_FREED_BELOW))
-            .saturating_add(1);
-        for _ in 0..count {
-            let cluster = self.draws.below(clusters) as usize;
-            self.room.free(cluster);
+        self.room.free_drawn(0, MAX_FREED_BELOW);
+        if self.rebuild(WIDTH, true) && self.plans.has_gained() {
+            self.plans.go_on();
         }
-        if self.rebuild(WIDTH, true) && self.plans.after.is_less(&self.plans.current) {
-            mem::swap(&mut self.plans.current, &mut self.plans.after);
-        }
-        self.keep_best();
+        self.plans.keep_best();
     }
 
     /// Builds the freed clusters of the current plan anew.
@@ -267,57 +383,19 @@ impl PlanSearch {
             by_lists,
         };
         self.room.beam.rebuild(
-            &self.network,
-            &self.guide,
+            &self.day.network,
+            &self.day.guide,
             &self.plans.current,
             freedom,
             &mut self.plans.after,
         )
     }
 
-    /// Keeps the current plan as the best one, where it is.
-    fn keep_best(&mut self) {
-        if self.plans.current.is_less(&self.plans.best) {
-            self.plans.best.copy_from(&self.plans.current);
-        }
-    }
-
     /// Draws some clusters, which may be the same, and frees them.
     fn free_some(&mut self) {
-        self.room.free_none();
-        let manner = self.made % 3;
-        if manner == 2 && self.plans.current.violations != 0 {
-            self.room
-                .weights
-                .by_broken_stations(&self.network, &self.plans.current);
-        } else if manner != 0 {
-            self.room.weights.by_regret(
-                &self.network,
-                &self.guide,
-                &self.plans.current,
-                &self.chains,
-            );
-        }
-        let clusters = self.room.clusters();
-        let limit = clusters
-            .min(MAX_FREED)
-            .min((self.stalled / MAX_STALLED).saturating_add(3));
-        let count = self.draws.below(limit).saturating_add(1);
-        for number in 0..count {
-            let alike = manner == 0 || (manner == 1 && number > 0);
-            let cluster = if alike {
-                self.draws.below(clusters) as usize
-            } else {
-                self.by_weight()
-            };
-            self.room.free(cluster);
-        }
-    }
-
-    /// A cluster drawn by weight.
-    fn by_weight(&mut self) -> usize {
-        let number = self.draws.below_wide(self.room.weights.sum());
-        self.room.weights.cluster_at(number)
+        let manner = self.pace.made % 3;
+        self.room.weigh(manner, &self.day, &self.plans.current);
+        self.room.free_drawn(manner, self.pace.most_freed());
     }
 }
 

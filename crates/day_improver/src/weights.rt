@@ -130,10 +130,8 @@ impl Chains {
     /// How far the priced value of a chain is over the least one.
     fn regret(&self, network: &Network, guide: &PriceGuide, plan: &Plan, chain: usize) -> u64 {
         let begin = self.begins.get(chain).copied().unwrap_or(self.trips.len());
-        let end = match self.begins.get(chain.saturating_add(1)) {
-            Some(next) => (*next).min(self.trips.len()),
-            None => self.trips.len(),
-        };
+        let next = self.begins.get(chain.saturating_add(1)).copied();
+        let end = next.unwrap_or(usize::MAX).min(self.trips.len());
         let mut sum: i64 = 0;
         for place in begin..end {
             let Some(trip) = self.trips.get(place).copied() else {
