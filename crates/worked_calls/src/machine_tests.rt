@@ -215,19 +215,34 @@ const PAIRS: &[(Step, Step)] = &[
     (Step::Arrive(2), Step::Arrive(3)),
 ];
 
+/// Adds one step and then another.
+fn add_pair(steps: &mut Vec<Step>, earlier: Step, later: Step) -> Result<(), AllocError> {
+    steps.push(earlier)?;
+    steps.push(later)?;
+    Ok(())
+}
+
+/// Adds the steps of a pair, exchanged or not.
+fn add_either(
+    steps: &mut Vec<Step>,
+    pair: &(Step, Step),
+    is_exchanged: bool,
+) -> Result<(), AllocError> {
+    let (first, second) = *pair;
+    if is_exchanged {
+        add_pair(steps, second, first)
+    } else {
+        add_pair(steps, first, second)
+    }
+}
+
 /// These events in one of their sixteen orders, and the end of the day. Each binary digit of the number, from the
 /// lowest on, says whether a pair is exchanged.
 fn order_of(alloc: Global, number: u32) -> Result<Vec<Step>, AllocError> {
     let mut steps = Vec::new(alloc);
     let mut digits = number;
-    for (first, second) in PAIRS {
-        let (earlier, later) = if digits % 2 == 0 {
-            (*first, *second)
-        } else {
-            (*second, *first)
-        };
-        steps.push(earlier)?;
-        steps.push(later)?;
+    for pair in PAIRS {
+        add_either(&mut steps, pair, digits % 2 == 1)?;
         digits /= 2;
     }
     steps.push(Step::Finish)?;

@@ -35,21 +35,23 @@ fn two_trips_read(alloc: Global) -> Result<String, Fail> {
     Ok(text_of(alloc, tables)?)
 }
 
+/// Whether the next draw below 400 is this number, and the state after it is this one.
+fn draws_next(draws: &mut Draws, below: u32, state: u32) -> bool {
+    draws.below(400) == below && draws.state() == state
+}
+
 #[test]
 fn draws_of_seed_7(rt: HostRuntime) {
     let mut draws = Draws::from_seed(7);
-    assert_eq!(rt; draws.below(400), 364);
-    assert_eq!(rt; draws.state(), 1_282_168_116);
-    assert_eq!(rt; draws.below(400), 206);
-    assert_eq!(rt; draws.state(), 642_666_333);
+    assert!(rt; draws_next(&mut draws, 364, 1_282_168_116));
+    assert!(rt; draws_next(&mut draws, 206, 642_666_333));
 }
 
 #[test]
 fn tables_of_two_trips(rt: HostRuntime) -> Result<(), Fail> {
-    let alloc = rt.alloc();
-    let made = two_trips_made(alloc)?;
-    let read = two_trips_read(alloc)?;
-    assert_eq!(rt; made, read);
+    let made = two_trips_made(rt.alloc())?;
+    let read = two_trips_read(rt.alloc())?;
+    assert!(rt; made == read, "{made}");
     Ok(())
 }
 
@@ -68,7 +70,7 @@ fn counts_of_forty_trips(alloc: Global) -> Result<(u32, u32, u32, u32), Fail> {
 #[test]
 fn forty_trips(rt: HostRuntime) -> Result<(), Fail> {
     let counts = counts_of_forty_trips(rt.alloc())?;
-    assert_eq!(rt; counts, (40, 20, 60, 15));
+    assert!(rt; counts == (40, 20, 60, 15));
     Ok(())
 }
 
@@ -102,6 +104,6 @@ fn most_trips_of_the_last_seed(rt: HostRuntime) -> Result<(), Fail> {
     let last = last_of_the_most_trips(rt.alloc())?;
     assert!(rt; last.as_str() == "R199 1554 1604 247", "{last}");
     let counts = counts_of_the_most_trips(rt.alloc())?;
-    assert_eq!(rt; counts, (400, 200, 600));
+    assert!(rt; counts == (400, 200, 600));
     Ok(())
 }
