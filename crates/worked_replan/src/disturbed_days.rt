@@ -77,17 +77,25 @@ fn made_of(alloc: Global, bytes: &TableBytes) -> Result<Instance, Fail>
 pub(crate) fn told(alloc: Global, case: &Case) -> Result<String, Fail> {
     let bytes = tables(alloc, &case.texts)?;
     let instance = made_of(alloc, &bytes)?;
-    let plan = plan_of(alloc, &instance, case.plan)?;
-    match read_cancelled(
-        alloc,
-        &instance,
-        Minute(case.minute),
-        table(case.cancelled)?,
-    ) {
+    told_on(alloc, case, &bytes, &instance)
+}
+
+/// What is told of a disturbed day of tables.
+fn told_on(
+    alloc: Global,
+    case: &Case,
+    bytes: &TableBytes,
+    instance: &Instance,
+) -> Result<String, Fail>
+    requires { IsDayOfBytes bytes.now instance.now }
+{
+    let plan = plan_of(alloc, instance, case.plan)?;
+    let minute = Minute(case.minute);
+    match read_cancelled(alloc, instance, minute, table(case.cancelled)?) {
         Err(refusal) => refused(alloc, refusal),
         Ok(cancelled) => {
-            let later = later(alloc, &bytes, &instance, &cancelled)?;
-            told_without(alloc, case, &instance, &plan, &cancelled, &later)
+            let later = later(alloc, bytes, instance, &cancelled)?;
+            told_without(alloc, case, instance, &plan, &cancelled, &later)
         }
     }
 }
@@ -110,8 +118,9 @@ fn told_without(
     }
     let minute = Minute(case.minute);
     let disturbance = Disturbance::new(instance, plan, minute, cancelled, later, case.change);
+    let allowed = allowed(case)?;
     let mut advisors = Vec::new(alloc);
-    match replan(alloc, &disturbance, allowed(case)?, &mut advisors) {
+    match replan(alloc, &disturbance, allowed, &mut advisors) {
         Err(ReplanRefusal::NoMemory) => Err(Fail::new("want of memory")),
         Err(ReplanRefusal::Stops(fault)) => stops(alloc, &fault),
         Ok(answer) => told_of(alloc, case, &answer, later),

@@ -26,14 +26,21 @@ pub(crate) fn replanned(alloc: Global, answer: &Replanned, later: &Later) -> Res
     let mut text = String::new(alloc);
     write_head(&mut text, &answer.head)?;
     write!(&mut text, "changes {}\n", answer.changes)?;
-    if let Some(plan) = &answer.plan {
-        for trip in 0..known_trips(plan, later) {
-            write!(&mut text, "run {}", later.old(TripNo(trip)).0)?;
-            write_units(&mut text, " ", plan.units(TripNo(trip)))?;
-        }
-    }
+    write_runs(&mut text, &answer.plan, later)?;
     write!(&mut text, "branchings {}\n", answer.tree.branchings())?;
     Ok(text)
+}
+
+/// Adds a line for each trip of a plan, where there is one, by the numbers that the trips had.
+fn write_runs(text: &mut String, plan: &Option<NamedPlan>, later: &Later) -> Result<(), NoMemory> {
+    let Some(plan) = plan else {
+        return Ok(());
+    };
+    for trip in 0..known_trips(plan, later) {
+        write!(text, "run {}", later.old(TripNo(trip)).0)?;
+        write_units(text, " ", plan.units(TripNo(trip)))?;
+    }
+    Ok(())
 }
 
 /// The plan of a later day as a table.
@@ -61,10 +68,10 @@ fn known_trips(plan: &NamedPlan, later: &Later) -> u32
 
 /// Adds units, with a mark before the first and a space before each other, and ends the line.
 fn write_units(text: &mut String, first: &str, units: &[UnitNo]) -> Result<(), NoMemory> {
-    for place in 0..units.len() {
-        text.push_str(if place == 0 { first } else { " " })?;
-        let unit = units[place];
-        write!(text, "{}", unit.0)?;
+    let mut mark = first;
+    for unit in units {
+        write!(text, "{mark}{}", unit.0)?;
+        mark = " ";
     }
     text.push_str("\n")?;
     Ok(())
