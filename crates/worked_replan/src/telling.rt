@@ -68,10 +68,10 @@ fn known_trips(plan: &NamedPlan, later: &Later) -> u32
 
 /// Adds units, with a mark before the first and a space before each other, and ends the line.
 fn write_units(text: &mut String, first: &str, units: &[UnitNo]) -> Result<(), NoMemory> {
-    let mut mark = first;
-    for unit in units {
-        write!(text, "{mark}{}", unit.0)?;
-        mark = " ";
+    for place in 0..units.len() {
+        text.push_str(if place == 0 { first } else { " " })?;
+        let unit = units[place];
+        write!(text, "{}", unit.0)?;
     }
     text.push_str("\n")?;
     Ok(())
