@@ -110,8 +110,8 @@ fn a_day_that_cannot_balance_ends_without_a_branching(rt: HostRuntime) -> Result
     Ok(())
 }
 
-/// How many evaluations and branchings are granted on the trial day of 20 trips, and what is found. The day has a plan of
-/// cost 4880, and none that costs less.
+/// How many evaluations and branchings are granted on the trial day of 20 trips, and what is found. The day has a plan
+/// of cost 4880, and none that costs less.
 const TRIALS: &[(u32, u32, &str)] = &[(40, 0, "bounded 4878, 0"), (40, 2, "optimal 4880, 1")];
 
 #[test]
