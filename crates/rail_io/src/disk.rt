@@ -1,73 +1,22 @@
 //! The real folder and the real sink: files on disk, and the standard output. They tell no contents.
 
-ghost use Rattle.std.specs.Prelude.{◌≡◌, true, ◌<◌, ◌≤◌, length, IfOk, IsTrue, OnErr, Ok, None};
+ghost use Rattle.std.specs.Prelude.{◌≡◌, true, ◌<◌, ◌≤◌, length, IfOk, OnErr, Ok, None};
 ghost use Rattle.std.specs.Result.{is_err};
 ghost use Rattle.rail_io.specs.Folders.{Rose, RoseBy, faults_after};
 
 use crate::{Failed, Folder, Sink};
-use arrayvec::ArrayVec;
 use std::io::{Print, Read, Seek, SeekFrom};
 use std::marker::Model;
 use std::rt::Files;
 use std::{fs, io};
 
-/// The longest path whose file stays open between reads, in bytes.
-const MAX_PATH_BYTES: usize = 4096;
-
-/// A file that was opened, and where its next read begins.
-#[derive(Drop)]
-struct OpenFile<F: Drop> {
-    path: ArrayVec<u8, MAX_PATH_BYTES>,
-    file: F,
-    at: u64,
-}
-
-impl<F: Read + Seek + Drop> OpenFile<F> {
-    /// Opens the file of a path, to be read from its front on.
-    fn new<R: Files<File = F>>(rt: &R, path: &str) -> io::Result<OpenFile<F>>
-        ensures { IfOk result (λ opened. length path.now ≤ MAX_PATH_BYTES → opened.path.items ≡ path.now) }
-    {
-        let file = fs::open(rt, path)?;
-        let mut kept = ArrayVec::new();
-        // A path that is too long is not kept, so that the next read of it opens the file anew.
-        let _kept = kept.try_extend_from_slice(path.as_bytes());
-        Ok(OpenFile {
-            path: kept,
-            file,
-            at: 0,
-        })
-    }
-
-    /// Whether the file is known to have been opened by this path.
-    fn is_of(&self, path: &str) -> bool
-        ensures { IsTrue result → self.now.path.items ≡ path.now }
-    {
-        !path.is_empty() && self.path.as_slice() == path.as_bytes()
-    }
-
-    /// Reads some bytes from a place on, and answers how many: 0 only at the file's end or where there is no room. It
-    /// seeks only where the place is not that of the next read.
-    fn read_from(&mut self, from: u64, into: &mut [u8]) -> io::Result<usize>
-        ensures { IfOk result (λ n. n ≤ length into.new) }
-    {
-        if from != self.at {
-            self.at = self.file.seek(SeekFrom::Start(from))?;
-        }
-        let count = self.file.read(into)?;
-        self.at = self.at.saturating_add(count as u64);
-        Ok(count)
-    }
-}
-
 /// The files of the system, over the runtime that main is given. A path that is not absolute is taken from the folder
-/// that the program runs in. A file whose path has 1 to 4,096 bytes stays open while reads go on in it, so that one
-/// that is replaced meanwhile is read as it was opened; a read of another path, the file's end and an error close it.
-/// Each error of the system raises the count of faults, which stays where it is once it is the greatest of its type. A
-/// contract sees the counts of faults and of bytes handed out.
+/// that the program runs in. Each read opens the file of its path, seeks its place and reads there, so that a file that
+/// is replaced meanwhile is read as it stands at each read. Each error of the system raises the count of faults, which
+/// stays where it is once it is the greatest of its type. A contract sees the counts of faults and of bytes handed out.
 #[derive(Drop)]
 pub struct DiskFolder<'a, R: Files> {
     rt: &'a R,
-    open: Option<OpenFile<R::File>>,
     faults: u64,
     taken: u64,
 }
@@ -87,35 +36,18 @@ impl<'a, R: Files> DiskFolder<'a, R> {
     {
         DiskFolder {
             rt,
-            open: None,
             faults: 0,
             taken: 0,
         }
     }
 
-    /// Takes out the file of a path, which is opened if it doesn't stand open.
-    fn take_open(&mut self, path: &str) -> io::Result<OpenFile<R::File>>
-        ensures counts { self.new ≡ self.old }
-        ensures path { IfOk result (λ opened. length path.now ≤ MAX_PATH_BYTES → opened.path.items ≡ path.now) }
+    /// Reads some bytes of a file from a place on, and answers how many: 0 only at its end or where there is no room.
+    fn read_from(&self, path: &str, from: u64, into: &mut [u8]) -> io::Result<usize>
+        ensures { IfOk result (λ n. n ≤ length into.new) }
     {
-        match self.open.take() {
-            Some(open) if open.is_of(path) => Ok(open),
-            _ => OpenFile::new(self.rt, path),
-        }
-    }
-
-    /// Reads some bytes of a file from a place on, and answers how many: 0 only at its end or where there is no room,
-    /// which closes it as an error does.
-    fn read_on(&mut self, path: &str, from: u64, into: &mut [u8]) -> io::Result<usize>
-        ensures room { IfOk result (λ n. n ≤ length into.new) }
-        ensures counts { self.new ≡ self.old }
-    {
-        let mut open = self.take_open(path)?;
-        let count = open.read_from(from, into)?;
-        if count > 0 {
-            self.open = Some(open);
-        }
-        Ok(count)
+        let mut file = fs::open(self.rt, path)?;
+        file.seek(SeekFrom::Start(from))?;
+        file.read(into)
     }
 }
 
@@ -144,7 +76,7 @@ impl<'a, R: Files> Folder for DiskFolder<'a, R> {
         if into.is_empty() {
             return Ok(0);
         }
-        let Ok(count) = self.read_on(path, from, into) else {
+        let Ok(count) = self.read_from(path, from, into) else {
             self.faults = self.faults.saturating_add(1);
             return Err(Failed);
         };

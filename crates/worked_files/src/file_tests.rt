@@ -270,10 +270,6 @@ enum Step {
     Remove,
     /// At most four bytes of it are read from this place on.
     Read(u64),
-    /// At most four bytes of a file that is not there are read, whose path is as long as that of a `txt` file.
-    ReadMissing,
-    /// At most four bytes of a file that is not there are read, whose path begins with that of a `txt` file.
-    ReadLonger,
     /// The whole is read, where so many bytes may be read.
     ReadWhole(u64),
 }
@@ -297,13 +293,13 @@ const ON_DISK: &[OnDisk] = &[
         ],
         told: "200000 digits\nTooLong\n89\n",
     },
-    // A file is read as it was opened.
+    // A file is read as it stands at each read.
     OnDisk {
         ending: "txt",
         steps: &[
             Step::Write(Bytes::Text(b"before")),
             Step::Read(0),
-            // Another file takes its place: what was opened is read to its end, and the other one after that.
+            // Another file takes its place, which is read from then on.
             Step::Remove,
             Step::Write(Bytes::Text(b"after")),
             Step::Read(3),
@@ -312,17 +308,10 @@ const ON_DISK: &[OnDisk] = &[
             Step::Read(1),
             Step::Read(6),
             Step::Read(0),
-            // A read of another path closes it, also of one that is as long.
             Step::Remove,
-            Step::ReadMissing,
             Step::Read(3),
-            // A path that only begins with that of an open file is not taken for it.
-            Step::Write(Bytes::Text(b"again")),
-            Step::Read(0),
-            Step::Remove,
-            Step::ReadLonger,
         ],
-        told: "befo\nore\nefor\nefor\n\nafte\nfailed\nfailed\nagai\nfailed\n",
+        told: "befo\ner\nfter\nfter\n\nafte\nfailed\n",
     },
     // A seek that fails is told. No file of the system has a place past 2^63.
     OnDisk {
@@ -331,16 +320,9 @@ const ON_DISK: &[OnDisk] = &[
             Step::Write(Bytes::Text(b"runs 60\n")),
             Step::Read(u64::MAX),
             Step::Read(4),
-            Step::Read(u64::MAX),
-            Step::Read(5),
-            // It closes the file, so that the one that takes its place is read next.
-            Step::Read(u64::MAX),
-            Step::Remove,
-            Step::Write(Bytes::Text(b"stops")),
-            Step::Read(0),
             Step::Remove,
         ],
-        told: "failed\n 60\n\nfailed\n60\n\nfailed\nstop\n",
+        told: "failed\n 60\n\n",
     },
 ];
 
@@ -368,14 +350,6 @@ fn write_step(
         Step::Write(bytes) => write_file(rt, path, bytes),
         Step::Remove => Ok(fs::remove_file(rt, path)?),
         Step::Read(at) => Ok(write_piece(text, folder, path.as_str(), at)?),
-        Step::ReadMissing => {
-            let missing = path_on_disk(rt, "not")?;
-            Ok(write_piece(text, folder, missing.as_path().as_str(), 0)?)
-        }
-        Step::ReadLonger => {
-            let longer = path_on_disk(rt, "txt2")?;
-            Ok(write_piece(text, folder, longer.as_path().as_str(), 0)?)
-        }
         Step::ReadWhole(most) => { Ok(write_whole(text, rt.alloc(), folder, path.as_str(), most)?) }
     }
 }

@@ -172,13 +172,13 @@ struct OnFailingDisk {
 }
 
 const ON_FAILING_DISK: &[OnFailingDisk] = &[
-    // None fails: the file's end closes it, and nothing is sought where a read goes on.
+    // None fails: each read opens the file, seeks its place and reads.
     OnFailingDisk {
         most: 4,
         failing: None,
         places: &[0, 4, 7, 7],
         told: "runs\n 60\n\n\n",
-        calls: 7,
+        calls: 12,
     },
     // Less than was asked for is handed out as it is, and is not the file's end.
     OnFailingDisk {
@@ -186,7 +186,7 @@ const ON_FAILING_DISK: &[OnFailingDisk] = &[
         failing: None,
         places: &[0, 3, 6, 7],
         told: "run\ns 6\n0\n\n",
-        calls: 5,
+        calls: 12,
     },
     // A file that can't be opened is not opened again in this read.
     OnFailingDisk {
@@ -194,44 +194,23 @@ const ON_FAILING_DISK: &[OnFailingDisk] = &[
         failing: Some(0),
         places: &[0, 0],
         told: "failed\nruns\n",
-        calls: 3,
-    },
-    // A read that fails is not made again, whether the file was just opened, stood open or was sought, and closes it.
-    OnFailingDisk {
-        most: 4,
-        failing: Some(1),
-        places: &[0, 0],
-        told: "failed\nruns\n",
         calls: 4,
     },
+    // A seek that fails is not made again, and nothing is read after it.
     OnFailingDisk {
         most: 4,
-        failing: Some(2),
-        places: &[0, 4, 4],
-        told: "runs\nfailed\n 60\n",
-        calls: 6,
-    },
-    OnFailingDisk {
-        most: 4,
-        failing: Some(3),
-        places: &[0, 2, 2],
-        told: "runs\nfailed\nns 6\n",
-        calls: 7,
-    },
-    // Nor is a seek that fails, after which nothing is read, and which closes it too.
-    OnFailingDisk {
-        most: 4,
-        failing: Some(2),
+        failing: Some(4),
         places: &[0, 2, 4],
         told: "runs\nfailed\n 60\n",
-        calls: 6,
+        calls: 8,
     },
+    // A read that fails is not made again.
     OnFailingDisk {
         most: 4,
-        failing: Some(1),
-        places: &[2, 0],
-        told: "failed\nruns\n",
-        calls: 4,
+        failing: Some(5),
+        places: &[0, 4, 4],
+        told: "runs\nfailed\n 60\n",
+        calls: 9,
     },
 ];
 
