@@ -87,7 +87,7 @@ module _ (files : Files) (replanning : Replanning) where
         λ said. absurd (disturbed_or_refused inputs cancelled said.0 names are said.1),
       );
       named = λ three. absurd ((head_status rest.replanned.head).not_refused three);
-      ends = inl (record { inputs = inputs; cancelled = cancelled; accepted = are; written = this });
+      accepted = λ _. inl (inputs, cancelled, are);
     }
       where
         this : IsRestWritten inputs replanning cancelled (status_said rest.replanned.head) before after
@@ -116,7 +116,7 @@ module _ (files : Files) (replanning : Replanning) where
       stopped = λ other stops. (refl, written);
       refused = (λ three. absurd (omega (arith, three)), λ said. absurd (stops_or_refused inputs said.0 stopped said.1));
       named = λ three. absurd (omega (arith, three));
-      ends = inr (inl (record { inputs = inputs; stopped = stopped; one = refl; written = written }));
+      accepted = λ _. inr (inputs, stopped);
     }
 
     ended_refused : (file : DeskFile) → IsRefusedForReplan files replanning file
@@ -127,7 +127,7 @@ module _ (files : Files) (replanning : Replanning) where
       stopped = λ inputs stops. absurd (stops_or_refused inputs file stops refused);
       refused = (λ three. (file, refused), λ said. refl);
       named = λ three. (file, refused, written);
-      ends = inr (inr (record { file = file; refused = refused; three = refl; written = written }));
+      accepted = λ differs. absurd (differs refl);
     }
 
     ended_by_error : (error : ReadError) → Reads {Y = Inputs} (Reaches files dir) (Err error) (inputs_in files dir) → (text : List ℕ)

@@ -1,5 +1,5 @@
 -- How the planning of the rest of a disturbed day ends: the status, and what was written.
-use Rattle.std.specs.Prelude.{ℕ, ◌≡◌, ◌⊎◌, ◌↔◌, List, Option}
+use Rattle.std.specs.Prelude.{ℕ, ◌≡◌, ◌≢◌, ◌⊎◌, ◌↔◌, List, Option}
 use Rattle.rail_io.specs.Folders.{Files}
 use Rattle.rail_io.specs.Sinks.{Appends}
 use Rattle.timetable.specs.DerivedDays.{old_numbers}
@@ -25,29 +25,6 @@ pub record IsRestWritten (inputs : Inputs) (replanning : Replanning) (cancelled 
   pub says : status ≡ status_said answer.head
   pub written : Appends (document_of (old_numbers inputs.instance cancelled) answer) before after
 
--- the day, its plan, which runs, and the cancelled trips of a folder are accepted, and the rest of the day was planned
-pub record IsRestOfFolder (files : Files) (replanning : Replanning) (status : ℕ) (before after : Option (List ℕ))
-    : Type 0 where
-  pub inputs : Inputs
-  pub cancelled : List ℕ
-  pub accepted : AreDisturbed files replanning inputs cancelled
-  pub written : IsRestWritten inputs replanning cancelled status before after
-
--- they are accepted as a day and a plan of it, which doesn't run, and that was told
-pub record IsStopOfFolder (files : Files) (dir : List ℕ) (status : ℕ) (before after : Option (List ℕ)) : Type 0 where
-  pub inputs : Inputs
-  pub stopped : AreStopped files dir inputs
-  pub one : status ≡ 1
-  pub written : Appends stops_line before after
-
--- a file of it is refused, and was named
-pub record IsRefusalOfFolder (files : Files) (replanning : Replanning) (status : ℕ) (before after : Option (List ℕ))
-    : Type 0 where
-  pub file : DeskFile
-  pub refused : IsRefusedForReplan files replanning file
-  pub three : status ≡ 3
-  pub written : Appends (refused_line file) before after
-
 -- the status with which the rest of a folder's day is planned, and what was written
 pub record EndsReplanning (files : Files) (replanning : Replanning) (status : ℕ) (before after : Option (List ℕ))
     : Type 0 where
@@ -62,7 +39,7 @@ pub record EndsReplanning (files : Files) (replanning : Replanning) (status : �
   -- then it was named
   pub named : status ≡ 3
       → (file : DeskFile) × IsRefusedForReplan files replanning file × Appends (refused_line file) before after
-  -- and one of these three it is
-  pub ends : IsRestOfFolder files replanning status before after
-      ⊎ (IsStopOfFolder files replanning.dir status before after
-      ⊎ IsRefusalOfFolder files replanning status before after)
+  -- and else they are accepted, with a plan that runs or one that doesn't
+  pub accepted : status ≢ 3
+      → ((inputs : Inputs) × (cancelled : List ℕ) × AreDisturbed files replanning inputs cancelled)
+      ⊎ ((inputs : Inputs) × AreStopped files replanning.dir inputs)
