@@ -41,10 +41,6 @@ merged-rising look entries (slack ∷ slacks) rising slack_rising =
     (all_below entries slack.index)
     (All-cons (λ e. slack.index ≤ e.index) (moved_entry look slack) rest (omega arith) (λ k d inside. omega (arith, past k d inside)))
 
--- where an index lies, of a slack's
-Side : ℕ → ℕ → Type 0
-Side i k = ((eqb i k ≡ true) × (i ≡ k)) ⊎ ((eqb i k ≡ false) × (i ≢ k))
-
 pub merged-entered : (look : Look) (entries slacks : List Entry) (i : ℕ) → is_entered (merged look entries slacks) i ≡ (is_entered slacks i || is_entered entries i)
 merged-entered look entries [] i = refl
 merged-entered look entries (slack ∷ slacks) i =

@@ -1,6 +1,5 @@
 -- No verdict on an answer says that an event is out of turn, or that the picks of a plan fail.
-use Rattle.std.proofs.Common.{◌≡◌, ℕ, suc, List, [], ◌∷◌, ◌++◌, Bool, IsTrue, Ok, Err, inl, inr}
-use Rattle.std.proofs.Common.{refl, sym, subst, ℤ}
+use Rattle.std.proofs.Common.{◌≡◌, ℕ, suc, List, [], ◌∷◌, ◌++◌, Bool, IsTrue, Ok, Err, inl, inr, refl, sym, subst, ℤ}
 use Rattle.std.specs.Prelude.{⊤, Result, IfOk}
 use Rattle.rail_base.specs.declared.memory.NoMemory.{NoMemory}
 use Rattle.rail_base.specs.declared.numbers.Money.{Money}

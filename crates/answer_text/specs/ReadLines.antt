@@ -5,8 +5,7 @@ use Rattle.std.specs.List.{AllByRecursion}
 use Rattle.std.specs.Str.{bytes_eq}
 use Rattle.rail_base.specs.Times.{colon}
 use Rattle.rail_base.specs.declared.limits.TheConstants.{MAX_BRANCHINGS, MAX_COMPOSITION_UNITS, MAX_COMPOSITIONS}
-use Rattle.rail_base.specs.declared.limits.TheConstants.{MAX_ENTRIES, MAX_MULTIPLIER, MAX_TRIPS, MAX_TYPES}
-use Rattle.rail_base.specs.declared.limits.TheConstants.{MAX_UNITS}
+use Rattle.rail_base.specs.declared.limits.TheConstants.{MAX_ENTRIES, MAX_MULTIPLIER, MAX_TRIPS, MAX_TYPES, MAX_UNITS}
 use Rattle.branch_tree.specs.declared.cuts.Cut.TheVariants.{Only, AtMost}
 use Rattle.branch_tree.specs.declared.multipliers.Entry.{Entry}
 use Rattle.branch_tree.specs.declared.tree.Node.{Node}

@@ -8,7 +8,7 @@ use Rattle.csv.specs.declared.parser.State.{State}
 use Rattle.csv.specs.declared.parser.State.TheVariants as st
 use Rattle.rail_csv.specs.Laws.{HasHeader}
 use Rattle.rail_csv.specs.Tables.{is_header, records_of}
-use Rattle.rail_csv.proofs.Headers.{has_header, header_is}
+use Rattle.rail_csv.proofs.Headers.{has_header}
 use Rattle.cancellations.specs.Cancellations.{header}
 
 -- ---- the header
@@ -21,9 +21,6 @@ header_read fields passes =
     let first : Some fields ≡ Some (take (length fields) header) = has.header in
     let is : fields ≡ take (length fields) header = cc in
     is ∙ ap (λ (n : ℕ). take n header) wide
-
-pub header_passes : is_header header 1 header ≡ true
-header_passes = (header_is header 1 1 header [] (record { header = refl; least = omega arith; most = omega arith })).is
 
 -- ---- how many records there are
 

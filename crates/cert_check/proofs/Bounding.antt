@@ -1,7 +1,6 @@
 -- The cost leaves of a tree, one after another.
-use Rattle.std.proofs.Common.{◌≡◌, ℕ, suc, ◌+◌, ◌<◌, List, [], ◌∷◌, length, drop, slice_get, true}
-use Rattle.std.proofs.Common.{false, ℤ, int_lt, ◌≤ℤ◌, ◌<ℤ◌, All, Some, None, is_some, refl, sym}
-use Rattle.std.proofs.Common.{ap, subst, arith, inl, inr, unwrap_or}
+use Rattle.std.proofs.Common.{◌≡◌, ℕ, suc, ◌+◌, ◌<◌, List, [], ◌∷◌, length, drop, slice_get, true, false, ℤ, int_lt}
+use Rattle.std.proofs.Common.{◌≤ℤ◌, ◌<ℤ◌, All, Some, None, is_some, refl, sym, ap, subst, arith, inl, inr, unwrap_or}
 use Rattle.std.proofs.lemmas.Int.{ints}
 use Rattle.std.proofs.lemmas.List.Elements.{All-cons, All-head}
 use Rattle.rail_base.specs.declared.numbers.Money.{Money}

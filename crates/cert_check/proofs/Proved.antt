@@ -17,9 +17,8 @@ use Rattle.branch_tree.specs.Meanings.{Meanings, IsRelaxation}
 use Rattle.branch_tree.specs.Trees.{Covers, IsLeast, IsLeastOf, IsWhole, Walks, branchings_of, bounds_of, cut_of, nodes_in, regions_below}
 use Rattle.branch_tree.proofs.Duality.{chain_values_are_one}
 use Rattle.branch_tree.proofs.Walking.{proved_at_each_node}
-use Rattle.cert_check.specs.Reasons.{IsFound, IsMisshapen, HasOtherBranchings, HasOtherLeast, IsBelowCost}
-use Rattle.cert_check.specs.Reasons.{IsLeft, money, node_tests, tests_from, plan_tests, leaf_tests, head_tests}
-use Rattle.cert_check.specs.Reasons.{claim_tests}
+use Rattle.cert_check.specs.Reasons.{IsFound, IsMisshapen, HasOtherBranchings, HasOtherLeast, IsBelowCost, IsLeft}
+use Rattle.cert_check.specs.Reasons.{money, node_tests, tests_from, plan_tests, leaf_tests, head_tests, claim_tests}
 use Rattle.cert_check.specs.Tests.{NoneFails, IsPassed}
 use Rattle.cert_check.proofs.Shapes.{not_misshapen}
 use Rattle.cert_check.proofs.Testing.{none_append}

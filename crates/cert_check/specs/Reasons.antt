@@ -18,10 +18,9 @@ use Rattle.branch_tree.specs.Regions.{are_in}
 use Rattle.branch_tree.specs.Trees.{IsLeastOf, IsWhole, branchings_of, bounds_of, cut_of, nodes_in}
 use Rattle.cert_check.specs.declared.verdict.Reason.{Reason}
 use Rattle.cert_check.specs.declared.verdict.Reason.TheVariants.{TreeShape, BranchingsDiffer, NotProper}
-use Rattle.cert_check.specs.declared.verdict.Reason.TheVariants.{MultiplierIndex}
-use Rattle.cert_check.specs.declared.verdict.Reason.TheVariants.{BoundDiffers, RayNotPositive, NotEmpty, PicksFail}
-use Rattle.cert_check.specs.declared.verdict.Reason.TheVariants.{CostDiffers, LeafBelowCost, CostLeafLeft}
-use Rattle.cert_check.specs.declared.verdict.Reason.TheVariants.{LeastBoundDiffers}
+use Rattle.cert_check.specs.declared.verdict.Reason.TheVariants.{MultiplierIndex, BoundDiffers, RayNotPositive}
+use Rattle.cert_check.specs.declared.verdict.Reason.TheVariants.{NotEmpty, PicksFail, CostDiffers, LeafBelowCost}
+use Rattle.cert_check.specs.declared.verdict.Reason.TheVariants.{CostLeafLeft, LeastBoundDiffers}
 use Rattle.cert_check.specs.Tests.{Test}
 
 -- an amount of money as a reason names it

@@ -1,6 +1,5 @@
 -- Each step passes, what it leaves waiting passes too, and what is settled then has one more row.
-use Rattle.std.proofs.Common.{ℕ, ◌≡◌, ◌∙◌, refl, ap, List, [], ◌∷◌, ◌++◌, Bool, true, false, codes, Some}
-use Rattle.std.proofs.Common.{Option}
+use Rattle.std.proofs.Common.{ℕ, ◌≡◌, ◌∙◌, refl, ap, List, [], ◌∷◌, ◌++◌, Bool, true, false, codes, Some, Option}
 use Rattle.std.specs.Prelude.{◌&&◌, ◌||◌, ◌==◌, not}
 use Rattle.std.specs.Option.{option_map_or}
 use Rattle.std.specs.Str.{bytes_eq}
@@ -17,9 +16,8 @@ use Rattle.command_line.specs.declared.form.Form.TheVariants.{Folder, FolderSear
 use Rattle.command_line.specs.Apps.{app, nodes_rule, rules}
 use Rattle.command_line.proofs.OptionItems.{option_name}
 use Rattle.command_line.proofs.Rows.{put}
-use Rattle.command_line.proofs.Stepping.{Ordinal, First, Second, Third, position, has_place, place_id}
-use Rattle.command_line.proofs.Stepping.{has_options, id_of}
-use Rattle.command_line.proofs.Stepping.{rule_for, settle, stand, await, hold, no_long, no_short, plain_met}
+use Rattle.command_line.proofs.Stepping.{Ordinal, First, Second, Third, position, has_place, place_id, has_options}
+use Rattle.command_line.proofs.Stepping.{id_of, rule_for, settle, stand, await, hold, no_long, no_short, plain_met}
 
 abbrev pub shape : Form → Shape
 shape form = (built (app form)).top

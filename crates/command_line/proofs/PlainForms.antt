@@ -13,8 +13,7 @@ use Rattle.command_line.specs.declared.form.Kind.TheVariants.{Plain, Name, Whole
 use Rattle.plain_words.specs.Items.{WordList, is_positional}
 use Rattle.command_line.proofs.OptionItems.{Item, Positional, TwoWords, OneWord, HaveTheirForm, option_name}
 use Rattle.command_line.proofs.OptionItems.{positional_in, values_in, words_of}
-use Rattle.command_line.specs.Parts.{Parts, begins_with, is_whole, kind_of, stepped, with_value}
-use Rattle.command_line.specs.Parts.{with_word}
+use Rattle.command_line.specs.Parts.{Parts, begins_with, is_whole, kind_of, stepped, with_value, with_word}
 
 pub cases : (b : Bool) → (b ≡ true) ⊎ (b ≡ false)
 cases true = inl refl

@@ -5,9 +5,8 @@ use Rattle.std.specs.Prelude.{◌&&◌, ◌==◌, option_and_then}
 use Rattle.std.specs.Option.{option_map_or}
 use Rattle.std.specs.Str.{bytes_eq}
 use Rattle.clap.specs.Lexer.{long_of, short_of, long_of_rest, short_of_rest, strip_byte}
-use Rattle.clap.specs.Walk.{Waiting, Step, option, trailing, after_step, long_or_other, short_or_plain}
-use Rattle.clap.specs.Walk.{plain_word, pushed, settled}
-use Rattle.clap.specs.Walk.{Rule, Row, Text, Held, Walk, walked, settled_rows, used, idle}
+use Rattle.clap.specs.Walk.{Waiting, Step, option, trailing, after_step, long_or_other, short_or_plain, plain_word}
+use Rattle.clap.specs.Walk.{pushed, settled, Rule, Row, Text, Held, Walk, walked, settled_rows, used, idle}
 use Rattle.clap.specs.Simple.{filled}
 use Rattle.command_line.specs.declared.form.OptionName.{OptionName}
 use Rattle.command_line.specs.declared.form.OptionName.TheVariants.{Nodes, Rounds}

@@ -1,7 +1,6 @@
 -- The walk over the words of items: what is settled after them, and that each step passes.
-use Rattle.std.proofs.Common.{ℕ, ◌≡◌, ◌≤◌, ◌+◌, ◌∙◌, refl, ap, sym, subst, List, [], ◌∷◌, ◌++◌, Bool, true}
-use Rattle.std.proofs.Common.{false, codes}
-use Rattle.std.proofs.Common.{Some, None, append-nil, append_assoc, length, arith}
+use Rattle.std.proofs.Common.{ℕ, ◌≡◌, ◌≤◌, ◌+◌, ◌∙◌, refl, ap, sym, subst, List, [], ◌∷◌, ◌++◌, Bool, true, false}
+use Rattle.std.proofs.Common.{codes, Some, None, append-nil, append_assoc, length, arith}
 use Rattle.std.specs.Prelude.{◌||◌, ◌==◌, fold, not}
 use Rattle.std.specs.Str.{bytes_eq}
 use Rattle.std.proofs.lemmas.Bool.{and_from}
@@ -15,14 +14,12 @@ use Rattle.command_line.specs.Apps.{rules}
 use Rattle.plain_words.specs.Items.{WordList}
 use Rattle.command_line.proofs.OptionItems.{Item, Positional, TwoWords, OneWord, HaveTheirForm}
 use Rattle.plain_words.specs.Items.{is_positional}
-use Rattle.command_line.proofs.OptionItems.{option_name}
-use Rattle.command_line.proofs.OptionItems.{positional_in, value_before, values_in, words_of}
+use Rattle.command_line.proofs.OptionItems.{option_name, positional_in, value_before, values_in, words_of}
 use Rattle.command_line.specs.Parts.{places, times}
 use Rattle.command_line.proofs.Rows.{has_row-more, one_row, put_is}
 use Rattle.command_line.proofs.Stepping.{Ordinal, First, Second, Third, position, next, has_place, place_id}
-use Rattle.command_line.proofs.Stepping.{has_options}
-use Rattle.command_line.proofs.Stepping.{id_of, rule_for, settle, stand, await, hold}
-use Rattle.command_line.proofs.Stepping.{name_step, positional_step, value_step, whole_step}
+use Rattle.command_line.proofs.Stepping.{has_options, id_of, rule_for, settle, stand, await, hold, name_step}
+use Rattle.command_line.proofs.Stepping.{positional_step, value_step, whole_step}
 use Rattle.command_line.proofs.Passing.{how, shape, name_passes_here, place_settles, positional_passes_here}
 use Rattle.command_line.proofs.Passing.{settled_place, settled_value, settled_whole, value_passes_here, value_settles}
 use Rattle.command_line.proofs.Passing.{whole_passes_here}

@@ -1,7 +1,6 @@
 -- What stands after a command word, taken apart one word after another.
-use Rattle.std.specs.Prelude.{ℕ, ◌<◌, ◌+◌, ◌^◌, List, [], ◌∷◌, ◌++◌, drop, take, length, fold}
-use Rattle.std.specs.Prelude.{Bool, true, false, not, ◌&&◌, ◌==◌, nat_le, if◌then◌else◌}
-use Rattle.std.specs.Prelude.{Option, Some, None, is_some, codes}
+use Rattle.std.specs.Prelude.{ℕ, ◌<◌, ◌+◌, ◌^◌, List, [], ◌∷◌, ◌++◌, drop, take, length, fold, Bool, true, false, not}
+use Rattle.std.specs.Prelude.{◌&&◌, ◌==◌, nat_le, if◌then◌else◌, Option, Some, None, is_some, codes}
 use Rattle.std.specs.Str.{bytes_eq}
 use Rattle.command_line.specs.declared.form.OptionName.{OptionName}
 use Rattle.command_line.specs.declared.form.OptionName.TheVariants.{Nodes, Rounds}

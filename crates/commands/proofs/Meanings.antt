@@ -25,9 +25,8 @@ use Rattle.command_line.proofs.AsItems.{positional_same, values_same}
 use Rattle.commands.specs.declared.command.Command.{Command}
 use Rattle.commands.specs.declared.command.Command.TheVariants.{Plan, Simulate, Check, Duties, Yards, Costs, Trial}
 use Rattle.commands.specs.declared.command.TheConstants.{MAX_SEED, USUAL_NODES, USUAL_ROUNDS}
-use Rattle.commands.specs.Commands.{command_of, day_of, even_trips, form_of, in_folder, named, named_plain}
-use Rattle.commands.specs.Commands.{nodes_of, numbers_of, plan_command, rounds_of}
-use Rattle.commands.specs.Commands.{trial_command, trips_of}
+use Rattle.commands.specs.Commands.{command_of, day_of, even_trips, form_of, in_folder, named, named_plain, nodes_of}
+use Rattle.commands.specs.Commands.{numbers_of, plan_command, rounds_of, trial_command, trips_of}
 use Rattle.commands.specs.PlainForm.{IsInFolder, IsPlainForm, IsTrial, Means, command_word, form_for}
 
 -- ---- folders and days

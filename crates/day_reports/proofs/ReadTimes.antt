@@ -1,17 +1,14 @@
 -- The text of a minute is read as the same minute.
 use Rattle.std.proofs.Common.{◌≡◌, ℕ, ◌/◌, ◌%◌, ◌<◌, true, arith}
 use Rattle.std.proofs.lemmas.Bool.Decides.{nat_tests}
-use Rattle.rail_base.specs.Times.{two_digits, digit_byte}
-use Rattle.rail_csv.specs.Fields.{is_digit, are_digits, number_of}
+use Rattle.rail_base.specs.Times.{two_digits}
+use Rattle.rail_csv.specs.Fields.{are_digits, number_of}
 use Rattle.day_reports.specs.Laws.{TimesAreReadAgain}
 
 -- two digits spell their number
 spelled : (n : ℕ) → number_of (two_digits n) ≡ n
 unfolding number_of
 spelled n = omega arith
-
-is_a_digit : (d : ℕ) → d < 10 → is_digit (digit_byte d) ≡ true
-is_a_digit d below = grind (arith, nat_tests)
 
 are_two_digits : (n : ℕ) → n < 100 → are_digits (two_digits n) ≡ true
 are_two_digits n below = grind (arith, nat_tests)

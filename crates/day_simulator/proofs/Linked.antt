@@ -1,7 +1,6 @@
 -- A day with links, as the machine tests them: where each link's rule holds no test fails, and each trip into another
 -- arrives in time.
-use Rattle.std.proofs.Common.{◌≡◌, ℕ, ◌≤◌, List, [], true, false, Bool, Some, None, ap, ◌∙◌, subst, arith}
-use Rattle.std.proofs.Common.{⊎_elim}
+use Rattle.std.proofs.Common.{◌≡◌, ℕ, ◌≤◌, List, [], true, false, Bool, Some, None, ap, ◌∙◌, subst, arith, ⊎_elim}
 use Rattle.std.specs.Prelude.{if◌then◌else◌, ◌&&◌, not, slice_get, unwrap_or, option_map, option_and_then}
 use Rattle.std.proofs.lemmas.Bool.{cases_Bool, le-leb, and_right, and_from, cond-true, cond-false}
 use Rattle.timetable.specs.Day.{Day, leaves, arrives, type_of}

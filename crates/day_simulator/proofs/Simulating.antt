@@ -15,8 +15,7 @@ use Rattle.day_simulator.specs.declared.events.DayEvent.{DayEvent}
 use Rattle.day_simulator.specs.declared.events.StepFault.{StepFault}
 use Rattle.day_simulator.specs.Calls.{MakesSteps, Finishes, IsCost}
 use Rattle.day_simulator.specs.Machine.{Machine}
-use Rattle.day_simulator.specs.State.{State, first_state}
-use Rattle.day_simulator.specs.State.{trip_of}
+use Rattle.day_simulator.specs.State.{State, first_state, trip_of}
 use Rattle.day_simulator.specs.Steps.{steps, fixed_order, insert_event, sorted_events, events_by_trip}
 use Rattle.day_simulator.specs.Finish.{finish_of, finish_after, simulation}
 use Rattle.day_simulator.proofs.Theorem.{run_in_fixed_order}

@@ -17,9 +17,8 @@ use Rattle.desk_commands.proofs.OneCommand.{one_command}
 use Rattle.desk_app.specs.declared.outcome.DeskOutcome.{DeskOutcome}
 use Rattle.desk_app.specs.declared.outcome.DeskOutcome.TheVariants.{NoMemory}
 use Rattle.desk_app.specs.Documents.{IsDocument, table_refused_line, usage_line}
-use Rattle.desk_app.specs.Outcomes.{AskForFleet, AskForWeek, AskInVain, AskToPlan, AskToReplan, AskToSwap, ComesTo, IsOutcome}
-use Rattle.desk_app.specs.Outcomes.{OfCommand, InVain, Unread}
-use Rattle.desk_app.specs.Outcomes.{status_of, is_unread}
+use Rattle.desk_app.specs.Outcomes.{AskForFleet, AskForWeek, AskInVain, AskToPlan, AskToReplan, AskToSwap, ComesTo}
+use Rattle.desk_app.specs.Outcomes.{IsOutcome, OfCommand, InVain, Unread, status_of, is_unread}
 use Rattle.desk_app.specs.Statuses.{WroteOutcome}
 use Rattle.desk_app.specs.DeskEndings.{EndsByCommand}
 use Rattle.desk_app.specs.FleetEndings.{EndsFleet}

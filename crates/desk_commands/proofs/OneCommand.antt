@@ -196,26 +196,6 @@ one_command words one other first second =
     let items : second.items ≡ first.items = one_list (form_for other) second.rest second.items first.items second.plain moved in
     one_meant first.items kind first.meant (subst (λ (items : List Item). IsMeant items other) items second.meant)
 
-pub one_planning : (words : WordList) (one other : Planning) → IsPlainForm words (Plan one) → IsPlainForm words (Plan other) → one ≡ other
-one_planning words one other first second =
-    let both : Plan one ≡ Plan other = one_command words (Plan one) (Plan other) first second in cc
-
-pub one_swapping : (words : WordList) (one other : Swapping) → IsPlainForm words (Urgent one) → IsPlainForm words (Urgent other) → one ≡ other
-one_swapping words one other first second =
-    let both : Urgent one ≡ Urgent other = one_command words (Urgent one) (Urgent other) first second in cc
-
-pub one_replanning : (words : WordList) (one other : Replanning) → IsPlainForm words (Replan one) → IsPlainForm words (Replan other) → one ≡ other
-one_replanning words one other first second =
-    let both : Replan one ≡ Replan other = one_command words (Replan one) (Replan other) first second in cc
-
-pub one_week_planning : (words : WordList) (one other : WeekPlanning) → IsPlainForm words (Week one) → IsPlainForm words (Week other) → one ≡ other
-one_week_planning words one other first second =
-    let both : Week one ≡ Week other = one_command words (Week one) (Week other) first second in cc
-
-pub one_fleet_planning : (words : WordList) (one other : FleetPlanning) → IsPlainForm words (Fleet one) → IsPlainForm words (Fleet other) → one ≡ other
-one_fleet_planning words one other first second =
-    let both : Fleet one ≡ Fleet other = one_command words (Fleet one) (Fleet other) first second in cc
-
 -- ---- what may be granted
 
 number_within : (usual most : ℕ) (values : WordList) (number : ℕ) → usual ≤ most → IsOption usual most values number

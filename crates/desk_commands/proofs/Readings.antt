@@ -1,6 +1,6 @@
 -- What words are read as.
-use Rattle.std.proofs.Common.{◌≡◌, ◌<◌, ℕ, Bool, true, false, List, [], ◌∷◌, Option, Some, None, Result, Ok, Err, length, drop, refl, sym, ap, subst, inl, inr, arith}
-use Rattle.std.specs.Prelude.{slice_get, if◌then◌else◌, IfOk, IsTrue}
+use Rattle.std.proofs.Common.{◌≡◌, ℕ, Bool, true, false, List, [], ◌∷◌, Option, Some, None, Result, Ok, Err, length, drop, refl, ap, subst, inl, inr, arith}
+use Rattle.std.specs.Prelude.{slice_get, if◌then◌else◌, IfOk}
 use Rattle.rail_csv.specs.Fields.{is_time, time_of}
 use Rattle.rail_csv.specs.Spelling.{SpellsTime}
 use Rattle.plain_words.specs.declared.refusal.WordsRefusal.{WordsRefusal}
@@ -13,19 +13,6 @@ use Rattle.desk_commands.specs.Reading.{ReadsAs, ReadsCommand, SaysAs}
 use Rattle.desk_commands.proofs.OneCommand.{one_command}
 
 -- ---- the words after the program's name
-
--- words of the plain form have a program's name and a command word
-pub few_words : (words : WordList) → length words < 2 → Reads IsPlainForm words (Err NotUnderstood)
-few_words words few = record {
-  understood = λ command e. absurd cc;
-  refused = λ e command form. too_few command form;
-  given = λ command form. absurd (too_few command form);
-}
-  where
-    too_few : (command : Command) → IsPlainForm words command → ⊥
-    too_few command form =
-        let many : length words ≡ length (form.program ∷ command_word command ∷ form.rest) = ap length form.written in
-        omega (arith, many, few)
 
 -- the words of a command word and the words after it
 pub reads : (words : WordList) (word : List ℕ) (rest : WordList) (result : Result Command WordsRefusal)

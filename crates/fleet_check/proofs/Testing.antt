@@ -5,7 +5,7 @@ use Rattle.fleet_check.specs.declared.verdict.FleetVerdict.{FleetVerdict}
 use Rattle.fleet_check.specs.declared.verdict.FleetVerdict.TheVariants.{Valid}
 use Rattle.fleet_check.specs.declared.verdict.Stop.{Stop}
 use Rattle.fleet_check.specs.declared.verdict.Stop.TheVariants.{Found, NoMemory}
-use Rattle.fleet_check.specs.Tests.{FirstFails, NoneFails, StopsAt, StopsWith, Test}
+use Rattle.fleet_check.specs.Tests.{FirstFails, NoneFails, StopsAt, Test}
 
 pub none_append : (tests more : List Test) → NoneFails tests → NoneFails more → NoneFails (tests ++ more)
 none_append [] more none rest = rest
@@ -39,12 +39,6 @@ not_both (test ∷ tests) verdict none first = elim first [
   | inl here ↦ none.0 verdict here
   | inr later ↦ not_both tests verdict none.1 later.1
 ]
-
--- a test of a fact that does not hold
-pub stops_with : (failure : FleetVerdict) (fact : Type 0) (stop : Stop) → StopsWith failure fact stop
-    → StopsAt ((λ verdict. (verdict ≡ failure) × (¬ fact)) ∷ []) stop
-stops_with failure fact (Found found) stops = inl stops
-stops_with failure fact NoMemory stops = tt
 
 -- ---- what is so of all tests of a list
 

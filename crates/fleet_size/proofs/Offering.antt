@@ -58,14 +58,6 @@ kept_is_priced offered (Some best) most few = at (int_lt offered.price.0 best.pr
     at true less = few
     at false not_less = between best.price.0 offered.price.0 most (not_lower offered.price.0 best.price.0 not_less) few
 
-pub itself_no_dearer : (price : Option ℤ) → IsNoDearer price price
-itself_no_dearer None = tt
-itself_no_dearer (Some price) = level price
-
--- what is taken of an answer without a plan
-pub nothing_taken : (prices fleet : List ℕ) (head : Head) (price : Option ℤ) → price_said head ≡ None → IsTaken prices fleet head price
-nothing_taken prices fleet head price none = subst (λ (said : Option ℤ). MatchOption said (Unit {0}) (λ cost. IsPricedUpTo price (cost +ℤ pos (fleet_cost prices fleet)))) (sym none) tt
-
 pub plan_taken : (prices fleet : List ℕ) (head : Head) (price : Option ℤ) (cost : ℤ) → price_said head ≡ Some cost → IsPricedUpTo price (cost +ℤ pos (fleet_cost prices fleet)) → IsTaken prices fleet head price
 plan_taken prices fleet head price cost some few = subst (λ (said : Option ℤ). MatchOption said (Unit {0}) (λ cost. IsPricedUpTo price (cost +ℤ pos (fleet_cost prices fleet)))) (sym some) few
 
@@ -135,7 +127,3 @@ no_more price whole cost units most low sum same = omega (arith, ints, low, sum,
 -- the price of a trimmed plan
 pub matched : {X : Type 0} (A : Type 0) (P : X → Type 0) (found : Option X) (x : X) → found ≡ Some x → MatchOption found A P → P x
 matched {X} A P found x is known = subst (λ (one : Option X). MatchOption one A P) is known
-
--- and nothing where there is none
-pub unmatched : {X : Type 0} (A : Type 0) (P : X → Type 0) (found : Option X) → found ≡ None → MatchOption found A P → A
-unmatched {X} A P found is known = subst (λ (one : Option X). MatchOption one A P) is known

@@ -1,7 +1,6 @@
 -- The nodes of a search, each with its box, and the best fleet so far.
-use Rattle.std.specs.Prelude.{ℕ, ◌≡◌, ◌+◌, ◌<◌, ◌≤◌, ◌⊎◌, List, [], ◌∷◌, ◌++◌, length, map, slice_index, ℤ, pos}
-use Rattle.std.specs.Prelude.{◌+ℤ◌, int_lt, Bool, true, false, if◌then◌else◌, Option, Some, None, MatchOption}
-use Rattle.std.specs.Prelude.{get_or}
+use Rattle.std.specs.Prelude.{ℕ, ◌≡◌, ◌+◌, ◌<◌, ◌≤◌, ◌⊎◌, List, [], ◌∷◌, ◌++◌, length, map, slice_index, ℤ, pos, ◌+ℤ◌}
+use Rattle.std.specs.Prelude.{int_lt, Bool, true, false, if◌then◌else◌, Option, Some, None, MatchOption, get_or}
 use Rattle.rail_base.specs.declared.numbers.Money.{Money}
 use Rattle.timetable.specs.Cost.{plan_cost}
 use Rattle.timetable.specs.Day.{Day}

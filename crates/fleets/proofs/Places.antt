@@ -11,10 +11,6 @@ use Rattle.timetable.specs.Build.{starts_of}
 use Rattle.timetable.specs.Meaning.{IsOtherStock}
 use Rattle.fleets.specs.Fleets.{fleet_size, stock_from}
 
-pub length-stock_from : (types place : ℕ) (fleet : List ℕ) → length (stock_from types place fleet) ≡ length fleet
-length-stock_from types place [] = refl
-length-stock_from types place (n ∷ fleet) = ap suc (length-stock_from types (place + 1) fleet)
-
 pub starts-stock_from : (types place : ℕ) (fleet : List ℕ) → starts_of (stock_from types place fleet) ≡ fleet_size fleet
 starts-stock_from types place [] = refl
 starts-stock_from types place (n ∷ fleet) = ap (λ k. n + k) (starts-stock_from types (place + 1) fleet)

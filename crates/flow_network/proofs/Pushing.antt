@@ -1,5 +1,5 @@
 -- One unit more that is sent, step by step from the sink back to the source.
-use Rattle.std.proofs.Common.{◌≡◌, ◌≢◌, ℕ, zero, suc, ◌+◌, ◌-◌, ◌≤◌, ◌<◌, Bool, true, false, List, [], ◌∷◌, length, get_or, set, map, refl, sym, ap, ◌∙◌, subst, arith, inl, inr, ◌⊎◌}
+use Rattle.std.proofs.Common.{◌≡◌, ◌≢◌, ℕ, zero, suc, ◌+◌, ◌-◌, ◌≤◌, ◌<◌, Bool, true, false, List, [], ◌∷◌, length, get_or, set, map, refl, sym, ap, ◌∙◌, subst, arith, inl, inr}
 use Rattle.std.proofs.Common.{Option, Some, None, is_some, option_map, unwrap_or, length-set}
 use Rattle.std.specs.Prelude.{if◌then◌else◌, ◌==◌, ◌||◌}
 use Rattle.std.specs.List.{sum_by}
@@ -41,11 +41,6 @@ map_set_same f [] i y d same below = refl
 map_set_same f (x ∷ xs) zero y d same below = ap (λ z. z ∷ map f xs) same
 map_set_same f (x ∷ xs) (suc i) y d same below = ap (λ zs. f x ∷ zs) (map_set_same f xs i y d same (omega (arith, below)))
 
-get_any : (xs : List Arc) (i : ℕ) (d e : Arc) → i < length xs → get_or xs i e ≡ get_or xs i d
-get_any [] i d e below = absurd (omega (arith, below))
-get_any (x ∷ xs) zero d e below = refl
-get_any (x ∷ xs) (suc i) d e below = get_any xs i d e (omega (arith, below))
-
 -- ---- an arc over which one unit more is sent
 
 head_stays : (b c : Bool) (a : Arc) → head_of b (pushed c a) ≡ head_of b a
@@ -66,12 +61,6 @@ opens_back true true a differs opens le = absurd (differs refl)
 opens_back false false a differs opens le = absurd (differs refl)
 opens_back true false a differs opens le = lt-ltb (a.flow - 1) a.capacity (let some = ltb-true 0 a.flow opens in omega (arith, some, le))
 opens_back false true a differs opens le = lt-ltb 0 (a.flow + 1) (omega arith)
-
-bool_eq : (b c : Bool) → (b ≡ c) ⊎ (b ≡ c → ⊥)
-bool_eq true true = inl refl
-bool_eq false false = inl refl
-bool_eq true false = inr (λ e. false≢true (sym e))
-bool_eq false true = inr false≢true
 
 -- ---- the node that is reached
 

@@ -1,8 +1,7 @@
 -- One node more that is reached.
 use Rattle.std.proofs.Common.{◌≡◌, ◌≢◌, ℕ, zero, suc, ◌+◌, ◌^◌, ◌≤◌, ◌<◌, Bool, true, false, List, [], ◌∷◌, length, get_or, set, refl, sym, ap, ◌∙◌, subst, arith, inl, inr}
 use Rattle.std.proofs.Common.{Option, Some, None, is_some, is_none, option_map, unwrap_or, length-set}
-use Rattle.std.specs.Prelude.{if◌then◌else◌, ◌==◌, ◌||◌, cond}
-use Rattle.std.specs.Prelude.{take}
+use Rattle.std.specs.Prelude.{if◌then◌else◌, ◌==◌, ◌||◌, cond, take}
 use Rattle.std.specs.List.{All, count_by}
 use Rattle.std.proofs.lemmas.List.Elements.{All-more}
 use Rattle.std.proofs.lemmas.Bool.{cases_Bool, cases_eq, cond-true, cond-false, eq-eqb, false≢true}
@@ -17,14 +16,6 @@ use Rattle.flow_network.specs.Steps.{CanReach, ClosesBoth, IsReaching, LeadsTo, 
 pub neither : (a b : Bool) → (a || b) ≡ false → (a ≡ false) × (b ≡ false)
 neither true b h = absurd cc
 neither false b h = (refl, h)
-
-second : (a b : Bool) → b ≡ true → (a || b) ≡ true
-second true b h = refl
-second false b h = h
-
-first_or : (a b : Bool) → a ≡ true → (a || b) ≡ true
-first_or true b h = refl
-first_or false b h = absurd cc
 
 pub not_some : (o : Option Step) → is_some o ≡ false → o ≡ None
 not_some None h = refl

@@ -8,8 +8,7 @@ use Rattle.timetable.specs.Accepted.{IsDay, AreLinks, IsStocked}
 use Rattle.timetable.specs.Day.{Day, leaves, from_of, to_of, type_of, unit_count, wanted_of, ready_at}
 use Rattle.timetable.specs.Links.{itself, taken_with}
 use Rattle.timetable.specs.Lists.{count_of, has}
-use Rattle.inventory.specs.Counts.{AreServed, takes_of, gives_of, taken_until, ready_until, all_taken}
-use Rattle.inventory.specs.Counts.{all_given}
+use Rattle.inventory.specs.Counts.{AreServed, takes_of, gives_of, taken_until, ready_until, all_taken, all_given}
 use Rattle.inventory.specs.NamedUnits.{standing, may_be_taken, latest_first}
 use Rattle.inventory.proofs.Sums.{one_same, one_other, sum_same, sum_le}
 use Rattle.inventory.proofs.Order.{in_list, AreInTurn, leaves_before, before_leaves, is_there, is_trip, latest_in_turn}

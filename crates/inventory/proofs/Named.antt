@@ -11,8 +11,7 @@ use Rattle.timetable.specs.Day.{Day, leaves, from_of}
 use Rattle.timetable.specs.Links.{list_of, itself, taken_with}
 use Rattle.timetable.specs.Lists.{count_of, has, below}
 use Rattle.inventory.specs.NamedUnits.{InYard, standing, after_trip, fetched, named_list, list_from, naming}
-use Rattle.inventory.specs.NamedUnits.{latest_first}
-use Rattle.inventory.specs.NamedUnits.{named_from}
+use Rattle.inventory.specs.NamedUnits.{latest_first, named_from}
 use Rattle.inventory.specs.Places.{coming, put_together}
 use Rattle.inventory.proofs.Sums.{one_same}
 use Rattle.inventory.proofs.Order.{IsTurn, AreInTurn, is_trip, latest_in_turn}

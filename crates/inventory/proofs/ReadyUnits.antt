@@ -17,9 +17,8 @@ use Rattle.inventory.specs.Counts.{taken_until, ready_until}
 use Rattle.inventory.specs.NamedBefore.{duty_before}
 use Rattle.inventory.specs.ReadyUnits.{stands_ready, ready_units, YardsHoldReadyUnits}
 use Rattle.inventory.proofs.Earlier.{early_begins, early_follows, all_late}
-use Rattle.inventory.proofs.OnDuty.{last_of_duty, filter_out, stays, given_less, taken_less, once}
-use Rattle.inventory.proofs.OnDuty.{first_takes, of_duty, duty_within, takes_until, gives_until, here_step, takes_here}
-use Rattle.inventory.proofs.OnDuty.{gives_here}
+use Rattle.inventory.proofs.OnDuty.{last_of_duty, filter_out, stays, given_less, taken_less, once, first_takes, of_duty}
+use Rattle.inventory.proofs.OnDuty.{duty_within, takes_until, gives_until, here_step, takes_here, gives_here}
 use Rattle.inventory.proofs.Order.{InLine, duty_in_line}
 use Rattle.inventory.proofs.Serving.{takes_by_units, gives_by_units}
 use Rattle.inventory.proofs.Sums.{one_same, sum_same, sum_add}

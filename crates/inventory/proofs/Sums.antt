@@ -5,8 +5,7 @@ use Rattle.std.specs.Prelude.{if◌then◌else◌, ◌==◌}
 use Rattle.std.proofs.lemmas.Bool.{cond-true, cond-false, eq-eqb, ne_eqb}
 use Rattle.timetable.specs.Lists.{count_of, sum_below}
 pub use Rattle.timetable.proofs.Ones.{one, one_same, one_other}
-pub use Rattle.timetable.proofs.Sums.{sum_first, sum_same, sum_add, sum_le, sum_zero, sum_swap}
-pub use Rattle.timetable.proofs.Sums.{sum_one_more}
+pub use Rattle.timetable.proofs.Sums.{sum_first, sum_same, sum_add, sum_le, sum_zero, sum_swap, sum_one_more}
 
 -- a list has so many units of a type as its units below a bound have that type
 pub sum_of_type : (type_of : ℕ → ℕ) (m n : ℕ) (us : List ℕ) → ((u : ℕ) → 1 ≤ count_of u us → u < n)

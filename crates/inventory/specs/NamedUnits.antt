@@ -1,9 +1,8 @@
 -- Which units run on which trip, where only the types of the compositions are given. Trips are named in the order in
 -- which they leave. Units that stay in a train keep their places. Each other place, from front to rear, gets a unit of
 -- its type from the yard: the one that was ready earliest, and of those the one with the smallest number.
-use Rattle.std.specs.Prelude.{ℕ, zero, suc, List, [], ◌∷◌, length, reverse, map, Bool, true}
-use Rattle.std.specs.Prelude.{false, not, ◌==◌, ◌&&◌, if◌then◌else◌, nat_le, nat_lt, Option, Some, None, option_map}
-use Rattle.std.specs.Prelude.{unwrap_or}
+use Rattle.std.specs.Prelude.{ℕ, zero, suc, List, [], ◌∷◌, length, reverse, map, Bool, true, false, not, ◌==◌, ◌&&◌}
+use Rattle.std.specs.Prelude.{if◌then◌else◌, nat_le, nat_lt, Option, Some, None, option_map, unwrap_or}
 use Rattle.timetable.specs.Day.{Day, leaves, from_of, to_of, home_of, type_of, unit_count, ready_at}
 use Rattle.timetable.specs.Duties.{in_order}
 use Rattle.timetable.specs.Links.{list_of, itself, taken_with}

@@ -1,6 +1,5 @@
 -- Numbers on the command line.
-use Rattle.std.specs.Prelude.{ℕ, ◌≡◌, ◌≤◌, List, [], ◌∷◌, length, true, ◌&&◌, nat_le, if◌then◌else◌}
-use Rattle.std.specs.Prelude.{Option, Some, None}
+use Rattle.std.specs.Prelude.{ℕ, ◌≡◌, ◌≤◌, List, [], ◌∷◌, length, true, ◌&&◌, nat_le, if◌then◌else◌, Option, Some, None}
 use Rattle.rail_csv.specs.Fields.{are_digits, number_of}
 use Rattle.plain_words.specs.declared.numbers.TheConstants.{MAX_WORD_DIGITS}
 use Rattle.plain_words.specs.Items.{WordList}

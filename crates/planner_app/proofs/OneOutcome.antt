@@ -34,8 +34,7 @@ use Rattle.planner_app.specs.DayOutcomes.{IsCheckOutcome, IsPlanOutcome, IsRepor
 use Rattle.planner_app.specs.DayOutcomes.{IsPlanned, NoMemoryToPlan, DoesRun, DoesStop, NoMemoryToRun, IsJudged, NoMemoryToCheck}
 use Rattle.planner_app.specs.DayOutcomes.{IsWrong, IsReported, HasNoPlan, NoMemoryToReport, IsTried, NoMemoryToTry}
 use Rattle.planner_app.specs.Outcomes.{ComesTo, IsOfAnswer, IsOutcome, OfCommand, InVain, Unread, NoDay, OfDay, NoInputs, OfInputs, NoAnswer, OfAnswer}
-use Rattle.planner_app.specs.Readings.{NoneRead, NoMemoryToRead}
-use Rattle.planner_app.specs.Readings.{NoDay as NoDayRead}
+use Rattle.planner_app.specs.Readings.{NoneRead, NoMemoryToRead, NoDay as NoDayRead}
 use Rattle.planner_app.specs.Laws.{IsOfSearch, IsToldByFiles, OthersAreTold, OutcomesAreOne, SearchesAreApart}
 use Rattle.planner_app.proofs.Asking.{one_command}
 

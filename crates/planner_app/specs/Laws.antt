@@ -9,8 +9,7 @@ use Rattle.answer_text.specs.Limits.{has_plan}
 use Rattle.answer_check.specs.Headline.{IsHeadline}
 use Rattle.run_documents.specs.declared.answer_file.AnswerError.TheVariants as answer_error
 use Rattle.run_documents.specs.declared.outcome.Outcome.{Outcome}
-use Rattle.run_documents.specs.declared.outcome.Outcome.TheVariants.{Planned, Tried, CannotRead, NoAnswer}
-use Rattle.run_documents.specs.declared.outcome.Outcome.TheVariants.{NoMemory}
+use Rattle.run_documents.specs.declared.outcome.Outcome.TheVariants.{Planned, Tried, CannotRead, NoAnswer, NoMemory}
 use Rattle.run_documents.specs.AnswerFiles.{answer_bytes}
 use Rattle.planner_app.specs.declared.reports.ReportKind.{ReportKind}
 use Rattle.planner_app.specs.Outcomes.{IsOutcome}

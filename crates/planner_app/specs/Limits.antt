@@ -2,17 +2,14 @@
 -- words are in `commands`.
 use Rattle.std.specs.Prelude.{◌≡◌}
 use Rattle.rail_base.specs.declared.limits.TheConstants.{MAX_CHANGE, MAX_FILE_BYTES, MAX_NAME_BYTES, MAX_SLACKS}
-use Rattle.rail_base.specs.declared.limits.TheConstants.{MAX_TABLE_BYTES}
-use Rattle.rail_base.specs.declared.limits.TheConstants.{MAX_LINKS, MAX_PLAN_ROWS, MAX_STATIONS, MAX_STOCK_ROWS}
-use Rattle.rail_base.specs.declared.limits.TheConstants.{MAX_TRIPS, MAX_TYPES, MAX_WEIGHT_ROWS}
+use Rattle.rail_base.specs.declared.limits.TheConstants.{MAX_TABLE_BYTES, MAX_LINKS, MAX_PLAN_ROWS, MAX_STATIONS}
+use Rattle.rail_base.specs.declared.limits.TheConstants.{MAX_STOCK_ROWS, MAX_TRIPS, MAX_TYPES, MAX_WEIGHT_ROWS}
 use Rattle.rail_base.specs.declared.limits.TheConstants.{MAX_CARRIAGES, MAX_FIRST_SEATS, MAX_METRES, MAX_PLATFORM}
-use Rattle.rail_base.specs.declared.limits.TheConstants.{MAX_REALLOCATION, MAX_SEATS, MAX_STOCK}
-use Rattle.rail_base.specs.declared.limits.TheConstants.{MAX_DEMAND, MAX_FIRST_DEMAND, MAX_KM, MAX_MINUTES}
-use Rattle.rail_base.specs.declared.limits.TheConstants.{MAX_WEIGHT}
+use Rattle.rail_base.specs.declared.limits.TheConstants.{MAX_REALLOCATION, MAX_SEATS, MAX_STOCK, MAX_DEMAND}
+use Rattle.rail_base.specs.declared.limits.TheConstants.{MAX_FIRST_DEMAND, MAX_KM, MAX_MINUTES, MAX_WEIGHT}
 use Rattle.rail_base.specs.declared.limits.TheConstants.{MAX_COMPOSITION_UNITS, MAX_COMPOSITIONS, MAX_EXCHANGED}
-use Rattle.rail_base.specs.declared.limits.TheConstants.{MAX_HANDOVERS}
-use Rattle.rail_base.specs.declared.limits.TheConstants.{MAX_UNITS}
-use Rattle.rail_base.specs.declared.limits.TheConstants.{MAX_ENTRIES, MAX_MULTIPLIER, MAX_NODES}
+use Rattle.rail_base.specs.declared.limits.TheConstants.{MAX_HANDOVERS, MAX_UNITS, MAX_ENTRIES, MAX_MULTIPLIER}
+use Rattle.rail_base.specs.declared.limits.TheConstants.{MAX_NODES}
 use Rattle.rail_csv.specs.declared.limits.TheConstants.{LAST_HOUR, LAST_MINUTE_OF_AN_HOUR, MINUTES_OF_AN_HOUR}
 use Rattle.rail_csv.specs.declared.limits.TheConstants.{MAX_NUMBER_DIGITS, MAX_VALUE_BYTES}
 use Rattle.rail_csv.specs.declared.limits.TheConstants.{FEWEST_TYPE_COLUMNS, FEWEST_STATION_COLUMNS}

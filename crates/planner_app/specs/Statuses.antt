@@ -1,6 +1,5 @@
 -- The status that a run ends with, and what it wrote.
-use Rattle.std.specs.Prelude.{ℕ, ◌≡◌, ◌≢◌, ◌⊎◌, ◌<◌, ◌↔◌, List, length, Option, Bool, true, false, IsTrue}
-use Rattle.std.specs.Prelude.{Ok, Err}
+use Rattle.std.specs.Prelude.{ℕ, ◌≡◌, ◌≢◌, ◌⊎◌, ◌<◌, ◌↔◌, List, length, Option, Bool, true, false, IsTrue, Ok, Err}
 use Rattle.rail_base.specs.declared.limits.TheConstants.{MAX_FILE_BYTES}
 use Rattle.rail_base.specs.declared.numbers.Money.{Money}
 use Rattle.rail_io.specs.Folders.{Files}

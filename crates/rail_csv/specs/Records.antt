@@ -2,8 +2,7 @@
 use Rattle.std.specs.Prelude.{◌≡◌, ◌<◌, ◌≤◌, ◌+◌, ◌^◌, ℕ, List, [], ◌∷◌, length, true, Option, Some, unwrap_or}
 use Rattle.std.specs.Borrow.{Bor}
 use Rattle.csv.specs.Reading.{records_from, default_config, source_of, Ready, reader_trim, reader_config, reader_state}
-use Rattle.csv.specs.Reading.{is_flexible}
-use Rattle.csv.specs.Reading.{owned_rows_reader, owned_rows_left}
+use Rattle.csv.specs.Reading.{is_flexible, owned_rows_reader, owned_rows_left}
 use Rattle.csv.specs.declared.parser.State.{State}
 use Rattle.csv.specs.declared.reader.Trim.TheVariants as trim
 use Rattle.rail_base.specs.declared.limits.TheConstants.{MAX_TABLE_BYTES}

@@ -2,13 +2,11 @@
 use Rattle.std.specs.Prelude.{ℕ, List, length, ◌≤◌, ◌<◌, IsTrue, IfSome}
 use Rattle.std.specs.List.{All}
 use Rattle.rail_base.specs.Names.{is_name}
-use Rattle.rail_base.specs.declared.limits.TheConstants.{MAX_TYPES, MAX_STATIONS, MAX_STOCK_ROWS, MAX_TRIPS}
-use Rattle.rail_base.specs.declared.limits.TheConstants.{MAX_LINKS, MAX_PLAN_ROWS, MAX_CARRIAGES, MAX_SEATS}
-use Rattle.rail_base.specs.declared.limits.TheConstants.{MAX_FIRST_SEATS, MAX_METRES, MAX_PLATFORM}
-use Rattle.rail_base.specs.declared.limits.TheConstants.{MAX_REALLOCATION, MAX_STOCK, MAX_MINUTES, MAX_KM}
-use Rattle.rail_base.specs.declared.limits.TheConstants.{MAX_DEMAND, MAX_FIRST_DEMAND, MAX_WEIGHT}
-use Rattle.rail_base.specs.declared.limits.TheConstants.{MAX_COMPOSITION_UNITS}
-use Rattle.rail_base.specs.declared.limits.TheConstants.{MAX_UNITS}
+use Rattle.rail_base.specs.declared.limits.TheConstants.{MAX_TYPES, MAX_STATIONS, MAX_STOCK_ROWS, MAX_TRIPS, MAX_LINKS}
+use Rattle.rail_base.specs.declared.limits.TheConstants.{MAX_PLAN_ROWS, MAX_CARRIAGES, MAX_SEATS, MAX_FIRST_SEATS}
+use Rattle.rail_base.specs.declared.limits.TheConstants.{MAX_METRES, MAX_PLATFORM, MAX_REALLOCATION, MAX_STOCK}
+use Rattle.rail_base.specs.declared.limits.TheConstants.{MAX_MINUTES, MAX_KM, MAX_DEMAND, MAX_FIRST_DEMAND, MAX_WEIGHT}
+use Rattle.rail_base.specs.declared.limits.TheConstants.{MAX_COMPOSITION_UNITS, MAX_UNITS}
 use Rattle.rail_csv.specs.declared.rows.TypeRow.{TypeRow}
 use Rattle.rail_csv.specs.declared.rows.StationRow.{StationRow}
 use Rattle.rail_csv.specs.declared.rows.StockRow.{StockRow}

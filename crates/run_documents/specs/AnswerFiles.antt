@@ -1,6 +1,5 @@
 -- The answer of a folder, or what is wrong with its file.
-use Rattle.std.specs.Prelude.{ℕ, ◌≡◌, ◌<◌, ◌≤◌, List, length, codes, Bool, true, false, IsTrue, Result, ⊤}
-use Rattle.std.specs.Prelude.{Ok, Err}
+use Rattle.std.specs.Prelude.{ℕ, ◌≡◌, ◌<◌, ◌≤◌, List, length, codes, Bool, true, false, IsTrue, Result, ⊤, Ok, Err}
 use Rattle.rail_base.specs.declared.limits.TheConstants.{MAX_FILE_BYTES}
 use Rattle.rail_io.specs.Folders.{Files, FolderState, Rose, RosePast, file_at}
 use Rattle.day_files.specs.OneFile.{path_in}

@@ -6,10 +6,9 @@ use Rattle.rules.specs.declared.heads.Head.{Head}
 use Rattle.answer_text.specs.Texts.{head_line}
 use Rattle.cert_check.specs.declared.verdict.Reason.{Reason}
 use Rattle.cert_check.specs.declared.verdict.Reason.TheVariants.{TreeShape, BranchingsDiffer, NotProper}
-use Rattle.cert_check.specs.declared.verdict.Reason.TheVariants.{MultiplierIndex}
-use Rattle.cert_check.specs.declared.verdict.Reason.TheVariants.{BoundDiffers, RayNotPositive, NotEmpty, PicksFail}
-use Rattle.cert_check.specs.declared.verdict.Reason.TheVariants.{CostDiffers, LeafBelowCost, CostLeafLeft}
-use Rattle.cert_check.specs.declared.verdict.Reason.TheVariants.{LeastBoundDiffers}
+use Rattle.cert_check.specs.declared.verdict.Reason.TheVariants.{MultiplierIndex, BoundDiffers, RayNotPositive}
+use Rattle.cert_check.specs.declared.verdict.Reason.TheVariants.{NotEmpty, PicksFail, CostDiffers, LeafBelowCost}
+use Rattle.cert_check.specs.declared.verdict.Reason.TheVariants.{CostLeafLeft, LeastBoundDiffers}
 use Rattle.answer_check.specs.declared.checking.AnswerVerdict.{AnswerVerdict}
 use Rattle.answer_check.specs.declared.checking.AnswerVerdict.TheVariants.{Valid, RunsDiffer, UnknownUnit, Stops, Claim}
 use Rattle.run_documents.specs.Lines.{fault_text, line_end}

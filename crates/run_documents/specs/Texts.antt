@@ -8,9 +8,8 @@ use Rattle.run_documents.specs.declared.outcome.Outcome.TheVariants.{NoPlan, Usa
 use Rattle.run_documents.specs.declared.outcome.Outcome.TheVariants.{NoAnswer, NoMemory}
 use Rattle.run_documents.specs.AnswerFiles.{answer_file}
 use Rattle.run_documents.specs.CheckTexts.{check_line}
-use Rattle.run_documents.specs.Lines.{answer_refusal_text, cannot_read_line, file_refused_line}
-use Rattle.run_documents.specs.Lines.{file_unread_line, no_plan_line}
-use Rattle.run_documents.specs.Lines.{refused_line, runs_line, stops_line, too_long_text, usage_text}
+use Rattle.run_documents.specs.Lines.{answer_refusal_text, cannot_read_line, file_refused_line, file_unread_line}
+use Rattle.run_documents.specs.Lines.{no_plan_line, refused_line, runs_line, stops_line, too_long_text, usage_text}
 use Rattle.run_documents.specs.TrialTexts.{trial_text}
 
 -- the document of an outcome; there is none for want of memory

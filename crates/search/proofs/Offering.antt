@@ -1,18 +1,17 @@
 -- What is offered within a root, and what improvements make of a node.
-use Rattle.std.proofs.Common.{◌≡◌, ℕ, zero, suc, ◌+◌, List, [], ◌∷◌, ◌++◌, Bool, true, false, IsTrue, if◌then◌else◌, length, take, get_or, ◌<◌}
+use Rattle.std.proofs.Common.{◌≡◌, ℕ, zero, suc, ◌+◌, List, [], ◌∷◌, ◌++◌, Bool, true, false, IsTrue, length, take, get_or, ◌<◌}
 use Rattle.std.proofs.Common.{Option, Some, None, ◌⊎◌, inl, inr, refl, sym, ◌∙◌, ap, subst, arith}
 use Rattle.std.proofs.lemmas.Int.{ints}
-use Rattle.branch_tree.specs.Claims.{CostedPicks, is_below}
+use Rattle.branch_tree.specs.Claims.{CostedPicks}
 use Rattle.branch_tree.specs.declared.multipliers.Entry.{Entry}
 use Rattle.branch_tree.specs.Meanings.{DoFitFor, Meanings, IsRelaxation}
 use Rattle.branch_tree.specs.Regions.{are_in}
 use Rattle.search.specs.declared.work.Work.{Work}
 use Rattle.improvers.specs.declared.improver.Improvement.{Improvement}
-use Rattle.search.specs.Improvements.{AreImproved, AreProposed, AreTried, IsProposed, IsUsedUp, or_cheaper}
+use Rattle.search.specs.Improvements.{AreImproved, AreProposed, AreTried, IsProposed, IsUsedUp}
 use Rattle.search.specs.Nodes.{IsSubregion}
 use Rattle.search.specs.NodesInWork.{IsConsidered, is_open_work}
 use Rattle.search.specs.Offers.{HasCheaperIn, IsOffered}
-use Rattle.search.proofs.Below.{below_less, lower}
 
 -- what is offered in a region of the root is offered in the root
 pub offered_within : (problem : Meanings) (root region : List (List Bool)) (old new : Option CostedPicks) → IsSubregion root region → IsOffered problem region old new → IsOffered problem root old new
@@ -28,35 +27,9 @@ offered_within problem root region old new within offered = record {
     widened None has = has
     widened (Some plan) has = (record { inside = within plan.picks has.0.inside; solution = has.0.solution; cost = has.0.cost }, has.1)
 
--- a solution in the root, offered where it costs less
-cheaper_offered : (problem : Meanings) (root : List (List Bool)) (picks : List ℕ) (best : Option CostedPicks) → IsTrue (are_in picks root) → problem.IsSolution picks → (below : Bool) →
-    is_below (problem.cost picks) best ≡ below → IsOffered problem root best (if below then Some (record { cost = problem.cost picks; picks = picks }) else best)
-cheaper_offered problem root picks best inside solution true below = record {
-  no_dearer = λ bound less. below_less bound (problem.cost picks) best (let under = lower bound (problem.cost picks) less in omega (arith, ints)) below;
-  either = inr (record { inside = inside; solution = solution; cost = refl }, below);
-}
-cheaper_offered problem root picks best inside solution false below = record { no_dearer = λ bound less. less; either = inl refl }
-
--- picks that were proposed, where they lie in the root and are a solution
-pub solution_proposed : (problem : Meanings) (root : List (List Bool)) (picks : List ℕ) (before after : Option CostedPicks) → IsTrue (are_in picks root) → problem.IsSolution picks →
-    after ≡ or_cheaper (record { cost = problem.cost picks; picks = picks }) before → IsProposed problem root picks before after
-solution_proposed problem root picks before after inside solution same = record { taken = λ within is. same; passed = λ never. absurd (never inside solution) }
-
-pub solution_offered : (problem : Meanings) (root : List (List Bool)) (picks : List ℕ) (before after : Option CostedPicks) → IsTrue (are_in picks root) → problem.IsSolution picks →
-    after ≡ or_cheaper (record { cost = problem.cost picks; picks = picks }) before → IsOffered problem root before after
-solution_offered problem root picks before after inside solution same =
-    subst (λ best. IsOffered problem root before best) (sym same) (cheaper_offered problem root picks before inside solution (is_below (problem.cost picks) before) refl)
-
--- picks that were proposed, where they don't lie in the root or are no solution
-pub none_proposed : (problem : Meanings) (root : List (List Bool)) (picks : List ℕ) (best : Option CostedPicks) → (IsTrue (are_in picks root) → problem.IsSolution picks → ⊥) → IsProposed problem root picks best best
-none_proposed problem root picks best never = record { taken = λ within is. absurd (never within is); passed = λ not. refl }
-
 -- a solution in the root follows, and is one for each trip
 pub solution_follows : (problem : Meanings) (root : List (List Bool)) (picks : List ℕ) → IsRelaxation problem → IsTrue (are_in picks root) → problem.IsSolution picks → problem.Follow picks
 solution_follows problem root picks relaxation inside solution = relaxation.near_follow picks root (relaxation.solution_near picks root solution inside)
-
-pub solution_length : (problem : Meanings) (root : List (List Bool)) (picks : List ℕ) → IsRelaxation problem → IsTrue (are_in picks root) → problem.IsSolution picks → length picks ≡ problem.trips
-solution_length problem root picks relaxation inside solution = relaxation.follow_length picks (solution_follows problem root picks relaxation inside solution)
 
 -- one more of the picks that are proposed
 pub proposed_next : (problem : Meanings) (root : List (List Bool)) (first : List (List ℕ)) (picks : List ℕ) (before middle after : Option CostedPicks) →

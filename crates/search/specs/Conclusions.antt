@@ -2,8 +2,7 @@
 use Rattle.std.specs.Prelude.{ℕ, ◌≡◌, ◌≤◌, ◌↔◌, List, [], Bool, IsSome, ℤ, Option, Some, None}
 use Rattle.branch_tree.specs.declared.tree.Node.{Node}
 use Rattle.branch_tree.specs.Claims.{Conclusion, optimal, infeasible, bounded, bounded_plan, CostedPicks}
-use Rattle.branch_tree.specs.Claims.{concluded_plan}
-use Rattle.branch_tree.specs.Claims.{IsProved, EndsInTime, HasOpenLeaf}
+use Rattle.branch_tree.specs.Claims.{concluded_plan, IsProved, EndsInTime, HasOpenLeaf}
 use Rattle.branch_tree.specs.Meanings.{Meanings}
 use Rattle.branch_tree.specs.Trees.{branchings_of, bounds_of}
 use Rattle.search.specs.declared.found.Best.{Best}

@@ -8,8 +8,7 @@ use Rattle.branch_tree.specs.declared.tree.Node.{Node}
 use Rattle.branch_tree.specs.declared.tree.Node.TheVariants.{Branch, CostLeaf}
 use Rattle.branch_tree.specs.declared.relaxation.Weight.TheVariants.{Cost}
 use Rattle.branch_tree.specs.Bounds.{IsChoice}
-use Rattle.branch_tree.specs.Claims.{CostedPicks, IsProvedAt, IsRaisedAt, IsSettledAt, IsNotEvident, is_below}
-use Rattle.branch_tree.specs.Claims.{is_open}
+use Rattle.branch_tree.specs.Claims.{CostedPicks, IsProvedAt, IsRaisedAt, IsSettledAt, IsNotEvident, is_below, is_open}
 use Rattle.branch_tree.specs.Cuts.{side_of, IsProper}
 use Rattle.branch_tree.specs.Meanings.{Meanings, DoFitFor}
 use Rattle.branch_tree.specs.Regions.{IsOver, are_in, set_at}

@@ -1,6 +1,5 @@
 -- How the advisors of a search are asked.
-use Rattle.std.specs.Prelude.{ℕ, zero, suc, ◌+◌, ◌*◌, ◌<◌, ◌≤◌, ◌^◌, ◌≡◌, List, get_or, map, All, Bool}
-use Rattle.std.specs.Prelude.{true, false}
+use Rattle.std.specs.Prelude.{ℕ, zero, suc, ◌+◌, ◌*◌, ◌<◌, ◌≤◌, ◌^◌, ◌≡◌, List, get_or, map, All, Bool, true, false}
 use Rattle.std.specs.List.{AllZip}
 
 -- An advisor that has not quit was asked so many times at least, and each was asked so many times at most. One that had

@@ -4,8 +4,7 @@ use Rattle.std.proofs.Common.{true, inl, inr, get_or, slice_get, unwrap_or, refl
 use Rattle.std.proofs.Common.{Contains, IsTrue}
 use Rattle.std.specs.Prelude.{◌↔◌, IfSome, IsNone}
 use Rattle.std.proofs.lemmas.Bool.{cases_order, and_parts, leb-true}
-use Rattle.std.proofs.lemmas.Option.{get_or_from_slice_get, slice_get_within, slice_get-get_or}
-use Rattle.std.proofs.lemmas.Option.{unwrap_or-slice_get}
+use Rattle.std.proofs.lemmas.Option.{get_or_from_slice_get, slice_get_within, slice_get-get_or, unwrap_or-slice_get}
 use Rattle.std.proofs.lemmas.List.{length-map, map_push, take_more}
 use Rattle.compositions.specs.Catalogue.{comes_before}
 use Rattle.compositions.proofs.Listing.{catalogue_listed}

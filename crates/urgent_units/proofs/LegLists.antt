@@ -18,15 +18,12 @@ use Rattle.unit_duties.specs.Stops.{stop_on, stops_of, duties_of}
 use Rattle.timetable.specs.Running.{Runs, EachFollows, MayFollow}
 use Rattle.inventory.proofs.OnDuty.{stays as kept_apart}
 use Rattle.urgent_units.specs.declared.legs.Leg.{Leg}
-use Rattle.urgent_units.specs.LegParts.{longer, with_leg}
+use Rattle.urgent_units.specs.LegParts.{with_leg}
 use Rattle.urgent_units.specs.Legs.{leg_of, stays}
 use Rattle.urgent_units.specs.Runs.{runs_of, with_trip, first_of}
 use Rattle.urgent_units.proofs.InTurn.{starts}
 
 -- ---- a list and its reverse
-
-pub reverse_push : {X : Type 0} (xs : List X) (x : X) → reverse (xs ++ x ∷ []) ≡ x ∷ reverse xs
-reverse_push xs x = reverse-append xs (x ∷ [])
 
 all_front : {X : Type 0} (P : X → Type 0) (xs ys : List X) → All P (xs ++ ys) → All P xs
 all_front P [] ys each = All-nil P
@@ -43,29 +40,6 @@ all_of_reverse P (x ∷ xs) each =
     All-cons P x xs (All-head P x [] (all_back P (reverse xs) (x ∷ []) parts)) (all_of_reverse P xs (all_front P (reverse xs) (x ∷ []) parts))
 
 -- ---- one trip more
-
-pub leg_alone : (day : Day) (t : ℕ) (legs : List Leg) → with_leg day false t legs ≡ leg_of day (t ∷ []) ∷ legs
-leg_alone day t [] = refl
-leg_alone day t (leg ∷ legs) = refl
-
--- a trip that gives the unit is a leg by itself
-pub pushed_alone : (day : Day) (is_given : Bool) (t : ℕ) (legs more : List Leg) (leg : Leg) → is_given ≡ true → more ≡ legs ++ leg ∷ [] → leg ≡ leg_of day (t ∷ []) → reverse more ≡ with_leg day (not is_given) t (reverse legs)
-pushed_alone day is_given t legs more leg gives more_is leg_is =
-    ap reverse more_is ∙ reverse_push legs leg ∙ ap (λ (l : Leg). l ∷ reverse legs) leg_is ∙ sym (leg_alone day t (reverse legs))
-    ∙ ap (λ (b : Bool). with_leg day (not b) t (reverse legs)) (sym gives)
-
--- so is one before no legs
-pub pushed_first : (day : Day) (is_given : Bool) (t : ℕ) (legs more : List Leg) (leg : Leg) → legs ≡ [] → more ≡ [] ++ leg ∷ [] → leg ≡ leg_of day (t ∷ []) → reverse more ≡ with_leg day (not is_given) t (reverse legs)
-pushed_first day is_given t legs more leg none more_is leg_is =
-    ap reverse more_is ∙ ap (λ (l : Leg). l ∷ []) leg_is ∙ ap (λ (ls : List Leg). with_leg day (not is_given) t (reverse ls)) (sym none)
-
--- and one that does not joins the leg behind it
-pub pushed_longer : (day : Day) (is_given : Bool) (t : ℕ) (legs rest more : List Leg) (first leg : Leg) → is_given ≡ false → legs ≡ rest ++ first ∷ [] → more ≡ rest ++ leg ∷ [] → leg ≡ longer day t first
-    → reverse more ≡ with_leg day (not is_given) t (reverse legs)
-pushed_longer day is_given t legs rest more first leg keeps legs_are more_is leg_is =
-    ap reverse more_is ∙ reverse_push rest leg ∙ ap (λ (l : Leg). l ∷ reverse rest) leg_is
-    ∙ ap (with_leg day true t) (sym (reverse_push rest first) ∙ ap reverse (sym legs_are))
-    ∙ ap (λ (b : Bool). with_leg day (not b) t (reverse legs)) (sym keeps)
 
 -- ---- the legs of runs
 

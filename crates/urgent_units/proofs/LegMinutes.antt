@@ -41,13 +41,6 @@ pub with_legs-append : (s : ℕ) (xs ys : List Leg) (ms : List ℕ) → with_leg
 with_legs-append s [] ys ms = refl
 with_legs-append s (leg ∷ xs) ys ms = ap (λ (ks : List ℕ). with_departure s leg (with_return s leg ks)) (with_legs-append s xs ys ms)
 
--- from one leg on
-pub legs_from_place : (s : ℕ) (legs : List Leg) (n : ℕ) (leg : Leg) (ms : List ℕ) → n < length legs → leg ≡ get_or legs n leg
-    → with_legs s (drop n legs) ms ≡ with_departure s leg (with_return s leg (with_legs s (drop (suc n) legs) ms))
-legs_from_place s legs n leg ms below is =
-    ap (λ (ls : List Leg). with_legs s ls ms) (drop-cons legs n leg below)
-    ∙ ap (λ (l : Leg). with_departure s l (with_return s l (with_legs s (drop (suc n) legs) ms))) (sym is)
-
 -- from the legs of one unit on
 pub units_from_place : (s : ℕ) (units : List UnitLegs) (n : ℕ) (unit : UnitLegs) → n < length units → unit ≡ get_or units n unit
     → with_legs s (flat_map (λ unit. unit.legs) (drop n units)) [] ≡ with_legs s unit.legs (with_legs s (flat_map (λ unit. unit.legs) (drop (suc n) units)) [])

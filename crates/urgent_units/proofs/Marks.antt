@@ -1,5 +1,5 @@
 -- Sums over marked legs and over units at home.
-use Rattle.std.proofs.Common.{◌≡◌, ◌≢◌, ℕ, zero, suc, ◌+◌, ◌≤◌, ◌<◌, Bool, true, false, List, [], ◌∷◌, ◌++◌, length, map, take, drop, get_or, refl, sym, ap, ◌∙◌, arith, inl, inr, Option, unwrap_or}
+use Rattle.std.proofs.Common.{◌≡◌, ◌≢◌, ℕ, zero, suc, ◌+◌, ◌≤◌, ◌<◌, Bool, true, false, List, [], ◌∷◌, ◌++◌, length, map, take, drop, refl, sym, ap, ◌∙◌, arith, inl, inr, Option, unwrap_or}
 use Rattle.std.specs.Prelude.{if◌then◌else◌, not, ◌&&◌, ◌==◌, nat_le, nat_lt, filter}
 use Rattle.std.specs.List.{All, flat_map}
 use Rattle.std.proofs.lemmas.Bool.{cases_Bool, cases_lt, cases_eq, cond-true, cond-false, eq-eqb, eqb-true, le-leb, leb-true, lt-ltb, le-ltb}
@@ -215,20 +215,6 @@ over_lt m d ms rise among =
     ]
 
 -- ---- one after another
-
-pub taken_step : (us : List ℕ) (arcs : List Arc) (p u : ℕ) (a : Arc) → p < length us → p < length arcs → u ≡ get_or us p u → a ≡ get_or arcs p a
-    → taken_units (drop p us) (drop p arcs) ≡ taken_units (u ∷ []) (a ∷ []) ++ taken_units (drop (p + 1) us) (drop (p + 1) arcs)
-taken_step [] arcs p u a at_u at_a u_is a_is = absurd (omega (arith, at_u))
-taken_step (v ∷ us) [] p u a at_u at_a u_is a_is = absurd (omega (arith, at_a))
-taken_step (v ∷ us) (b ∷ arcs) zero u a at_u at_a u_is a_is =
-    ap (λ (x : ℕ). taken_units (x ∷ us) (b ∷ arcs)) (sym u_is) ∙ ap (λ (x : Arc). taken_units (u ∷ us) (x ∷ arcs)) (sym a_is) ∙ either (nat_lt 0 a.flow)
-  where
-    either : (t : Bool) → (if t then u ∷ taken_units us arcs else taken_units us arcs) ≡ (if t then u ∷ taken_units [] [] else taken_units [] []) ++ taken_units us arcs
-    either true = refl
-    either false = refl
-taken_step (v ∷ us) (b ∷ arcs) (suc p) u a at_u at_a u_is a_is =
-    taken_step us arcs p u a (omega (arith, at_u)) (omega (arith, at_a)) u_is a_is
-    ∙ ap (λ (n : ℕ). taken_units (u ∷ []) (a ∷ []) ++ taken_units (drop n (v ∷ us)) (drop n (b ∷ arcs))) (let same : suc (p + 1) ≡ suc p + 1 = omega arith in same)
 
 listed_list : (plan : List (List ℕ)) (n t : ℕ) → t < n → list_of (listed (λ t. list_of plan t) n) t ≡ list_of plan t
 unfolding list_of

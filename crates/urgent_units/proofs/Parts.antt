@@ -1,13 +1,13 @@
 -- What the parts of legs hold: minutes that rise, and not too many.
 use Rattle.std.proofs.Common.{◌≡◌, ℕ, zero, suc, ◌+◌, ◌≤◌, ◌<◌, List, [], ◌∷◌, length, get_or, refl, sym, ap, ◌∙◌, subst, arith, Some, Option, unwrap_or}
 use Rattle.std.specs.Prelude.{slice_get}
-use Rattle.std.specs.List.{All, AllPairs}
-use Rattle.rail_base.specs.declared.limits.TheConstants.{MAX_MINUTES, MAX_REALLOCATION, MAX_TRIPS}
+use Rattle.std.specs.List.{AllPairs}
+use Rattle.rail_base.specs.declared.limits.TheConstants.{MAX_MINUTES, MAX_REALLOCATION}
 use Rattle.timetable.specs.Accepted.{IsDay, AreLinks}
 use Rattle.timetable.specs.Day.{Day}
 use Rattle.timetable.specs.Running.{Runs}
 use Rattle.urgent_units.specs.declared.legs.UnitLegs.{UnitLegs}
-use Rattle.urgent_units.specs.LegParts.{AreLegs, AreParts, IsLegAt}
+use Rattle.urgent_units.specs.LegParts.{AreLegs, AreParts}
 use Rattle.urgent_units.specs.Legs.{TypeLegs, legs_of}
 use Rattle.urgent_units.specs.Moments.{minutes_at}
 use Rattle.urgent_units.proofs.Bounds.{few_minutes}
@@ -36,21 +36,6 @@ minutes_found legs units minutes s place found parts legs_are below at is =
     got [] k d = refl
     got (x ∷ xs) zero d = refl
     got (x ∷ xs) (suc k) d = got xs k d
-
--- the legs of one of the units
-pub record AreWithin (legs : TypeLegs) (unit : UnitLegs) : Type 0 where
-  pub few : length unit.legs ≤ MAX_TRIPS
-  pub each : All (IsLegAt legs) unit.legs
-
-pub unit_within : (legs : TypeLegs) (units : List UnitLegs) (k : ℕ) (unit : UnitLegs) → AreLegs legs → units ≡ legs.units → k < length units → unit ≡ get_or units k unit → AreWithin legs unit
-unit_within legs units k unit are same below at =
-    let under : k < length legs.units = subst (λ (us : List UnitLegs). k < length us) same below in
-    let is : get_or legs.units k unit ≡ unit = ap (λ (us : List UnitLegs). get_or us k unit) (sym same) ∙ sym at in
-    let here : All (IsLegAt legs) unit.legs = subst (λ (u : UnitLegs). All (IsLegAt legs) u.legs) is (are.each k unit under) in
-    record {
-      few = subst (λ (u : UnitLegs). length u.legs ≤ MAX_TRIPS) is (are.few k unit under);
-      each = here;
-    }
 
 -- ---- legs that are made
 

@@ -47,12 +47,6 @@ agrees_itself : (b : Bool) → agrees b b ≡ true
 agrees_itself true = refl
 agrees_itself false = refl
 
-agrees_same : (a b c : Bool) → agrees a b ≡ true → agrees c a ≡ agrees c b
-agrees_same true true c h = refl
-agrees_same true false c h = absurd (false≢true h)
-agrees_same false true c h = absurd (false≢true h)
-agrees_same false false c h = refl
-
 same_of : (a b : Bool) → agrees a b ≡ true → a ≡ b
 same_of true true h = refl
 same_of true false h = absurd (false≢true h)

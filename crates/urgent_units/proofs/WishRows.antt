@@ -1,6 +1,6 @@
 -- The rows of the table of urgent units.
 use Rattle.std.proofs.Common.{◌≡◌, ℕ, zero, suc, ◌+◌, ◌≤◌, ◌<◌, List, [], ◌∷◌, ◌++◌, length, map, Some, refl, sym, ap, ◌∙◌, subst, arith}
-use Rattle.std.proofs.Common.{IsTrue, get_or, inl, inr, Option, None, IsUtf8}
+use Rattle.std.proofs.Common.{IsTrue, inl, inr, Option, None, IsUtf8}
 use Rattle.std.specs.Prelude.{MatchOption, unwrap_or, option_map}
 use Rattle.rules.specs.declared.records.Unit as unit
 use Rattle.std.specs.List.{All, AllPairs, AllZip, slice_get}
@@ -8,7 +8,7 @@ use Rattle.std.specs.Str.{bytes_eq}
 use Rattle.std.proofs.lemmas.Bool.{cases_eq, leb-true}
 use Rattle.std.proofs.lemmas.List.Kept.{AllPairs-cons}
 use Rattle.std.proofs.lemmas.List.Quantifiers.{position-Some}
-use Rattle.std.proofs.lemmas.List.{append_assoc, append-nil, get_or_append_left, length-map, map-append}
+use Rattle.std.proofs.lemmas.List.{append_assoc, append-nil, length-map, map-append}
 use Rattle.std.proofs.lemmas.List.Elements.{All-append, All-head, All-tail, All-cons, All-nil}
 use Rattle.rail_csv.specs.Columns.{field}
 use Rattle.rail_csv.specs.Records.{Records, ReadsOn, records_left}
@@ -29,17 +29,6 @@ use Rattle.urgent_units.specs.Wishes.{AreRight, GoTogether, HasRecords, IsFirstB
 
 pub pairs_nil : {X : Type 0} (R : X → X → Type 0) → AllPairs R []
 pairs_nil R i j d order below = absurd (omega arith)
-
--- what holds of each two holds of each two of the front
-pub pairs_front : {X : Type 0} (R : X → X → Type 0) (xs : List X) (y : X) → AllPairs R (xs ++ y ∷ []) → AllPairs R xs
-pairs_front {X} R xs y pairs i j d order below =
-    let wide : length (xs ++ y ∷ []) ≡ length xs + 1 = long xs in
-    subst (λ (a : X). R a (get_or xs j d)) (get_or_append_left xs (y ∷ []) d i (omega (arith, order, below)))
-    (subst (λ (b : X). R (get_or (xs ++ y ∷ []) i d) b) (get_or_append_left xs (y ∷ []) d j below) (pairs i j d order (omega (arith, wide, below))))
-  where
-    long : (xs : List X) → length (xs ++ y ∷ []) ≡ length xs + 1
-    long [] = refl
-    long (x ∷ xs) = omega (arith, long xs)
 
 pub pairs_head : {X : Type 0} (R : X → X → Type 0) (x : X) (xs : List X) → AllPairs R (x ∷ xs) → All (R x) xs
 pairs_head R x xs pairs k d below = pairs 0 (suc k) d (omega arith) (omega (arith, below))

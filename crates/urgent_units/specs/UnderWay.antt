@@ -1,7 +1,6 @@
 -- Units of one type on their way through the day: where they have come by a plan, and which legs are ahead of each.
 use Rattle.std.specs.Prelude.{ℕ, ◌≡◌, ◌<◌, ◌≤◌, ◌+◌, ◌++◌, List, [], ◌∷◌, length, map, get_or, Bool, not, ◌&&◌, ◌==◌}
-use Rattle.std.specs.Prelude.{if◌then◌else◌}
-use Rattle.std.specs.Prelude.{nat_le}
+use Rattle.std.specs.Prelude.{if◌then◌else◌, nat_le}
 use Rattle.std.specs.List.{All}
 use Rattle.timetable.specs.Day.{Day, home_of, type_of, types_of, unit_count}
 use Rattle.timetable.specs.Running.{Runs}

@@ -1,6 +1,6 @@
 -- The answers to the days so far.
-use Rattle.std.proofs.Common.{◌≡◌, ℕ, ◌+◌, ◌<◌, ◌≤◌, List, [], ◌∷◌, ◌++◌, All, Bool, true, false, length, drop, get_or, refl, sym, ap, ◌∙◌, subst, arith, take}
-use Rattle.std.proofs.lemmas.List.{append-nil, append_assoc, drop_all, drop_more, map-append, take_more}
+use Rattle.std.proofs.Common.{◌≡◌, ℕ, ◌+◌, ◌<◌, ◌≤◌, List, [], ◌∷◌, ◌++◌, All, Bool, true, false, length, drop, get_or, refl, sym, ap, ◌∙◌, subst, arith}
+use Rattle.std.proofs.lemmas.List.{append-nil, append_assoc, drop_all, drop_more}
 use Rattle.std.proofs.lemmas.List.Elements.{All-cons, All-nil}
 use Rattle.rail_base.specs.declared.limits.TheConstants.{MAX_TRIPS}
 use Rattle.timetable.specs.Day.{Day}
@@ -11,7 +11,7 @@ use Rattle.answer_text.specs.declared.limits.TheConstants.{MAX_AMOUNT}
 use Rattle.answer_text.specs.Limits.{IsHead}
 use Rattle.answer_check.specs.Headline.{IsHeadline}
 use Rattle.week_plan.specs.Amounts.{IsHeadUpTo}
-use Rattle.week_plan.specs.DayAnswers.{AreDayAnswers, IfPassed, is_infeasible, plans_in}
+use Rattle.week_plan.specs.DayAnswers.{AreDayAnswers, IfPassed, is_infeasible}
 
 -- With answers to the days that are left these are the answers to all.
 abbrev pub AnsweredSoFar : ℕ → List Day → List Day → List Answer → Type 0
@@ -74,8 +74,3 @@ heads_within grant days answers are = each_has grant (λ answer. IsHeadUpTo MAX_
 
 pub few_runs : (grant : ℕ) (days : List Day) (answers : List Answer) → AreDayAnswers grant days answers → All (λ answer. length answer.runs ≤ MAX_TRIPS) answers
 few_runs grant days answers are = each_has grant (λ answer. length answer.runs ≤ MAX_TRIPS) (λ day answer headline. headline.tree.within.few_runs) days answers are
-
--- the plan of one answer more
-pub plans_more : (answers : List Answer) (k : ℕ) (answer : Answer) → k < length answers → answer ≡ get_or answers k answer → plans_in (take (k + 1) answers) ≡ plans_in (take k answers) ++ answer.runs ∷ []
-plans_more answers k answer lt is =
-    ap plans_in (take_more answers k answer lt ∙ ap (λ (a : Answer). take k answers ++ a ∷ []) (sym is)) ∙ map-append (λ (a : Answer). a.runs) (take k answers) (answer ∷ [])

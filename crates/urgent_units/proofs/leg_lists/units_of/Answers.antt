@@ -1,5 +1,4 @@
-use Rattle.std.proofs.Common.{ap, arith}
-use Rattle.std.proofs.Common.{◌∙◌}
+use Rattle.std.proofs.Common.{ap, arith, ◌∙◌}
 use Rattle.urgent_units.proofs.LegLists.{stops_are}
 use Rattle.urgent_units.proofs.LegMinutes.{unit_put, unit_left}
 use Rattle.urgent_units.proofs.leg_lists.units_of.Goals.{then-is_of_type+in_ok-legs+in_ok-push, else-is_of_type}

@@ -3,8 +3,7 @@ use Rattle.urgent_units.specs.declared.swaps.MarkedLeg.{MarkedLeg}
 use Rattle.urgent_units.specs.declared.swaps.Rider.{Rider}
 use Rattle.urgent_units.specs.UnderWay.{added, agrees}
 use Rattle.urgent_units.proofs.Added.{entry}
-use Rattle.urgent_units.proofs.UnderWays.{here}
-use Rattle.urgent_units.proofs.UnderWays.{fewer_left, ridden_advances, ridden_way}
+use Rattle.urgent_units.proofs.UnderWays.{here, fewer_left, ridden_advances, ridden_way}
 use Rattle.urgent_units.proofs.swaps.ride.Goals as goal
 
 pub returns-clause-under_way : goal.returns-clause-under_way

@@ -1,5 +1,4 @@
-use Rattle.std.proofs.Common.{◌≡◌, ℕ, List, Some, None, Err, IsTrue, sym, ap, ◌∙◌, subst, true, length}
-use Rattle.std.proofs.Common.{arith}
+use Rattle.std.proofs.Common.{◌≡◌, ℕ, List, Some, None, Err, IsTrue, sym, ap, ◌∙◌, subst, true, length, arith}
 use Rattle.day_simulator.specs.declared.events.DayEvent.TheVariants.{Arrive}
 use Rattle.day_simulator.specs.declared.events.StepFault.TheVariants.{NotNow, LinkBroken}
 use Rattle.timetable.specs.Links.{list_of, given}
