@@ -11,10 +11,10 @@ use Rattle.rail_csv.specs.declared.refusal.TableRefusal.{TableRefusal}
 use Rattle.rail_csv.specs.declared.rows.PlanRow.{PlanRow}
 use Rattle.rail_csv.specs.Rows.{ArePlanRows}
 use Rattle.rail_csv.proofs.Accepted.{types_within, stations_within, stock_within, trips_within, links_within, weights_within}
-use Rattle.timetable.specs.declared.building.tables.Tables.{Tables}
+use Rattle.day_tables.specs.declared.building.tables.Tables.{Tables}
 use Rattle.timetable.specs.Day.{Day}
-use Rattle.timetable.specs.declared.building.refusal.InstanceRefusal.{InstanceRefusal}
-use Rattle.timetable.specs.declared.building.refusal.PlanRefusal.{PlanRefusal}
+use Rattle.day_tables.specs.declared.building.refusal.InstanceRefusal.{InstanceRefusal}
+use Rattle.day_tables.specs.declared.building.refusal.PlanRefusal.{PlanRefusal}
 use Rattle.timetable.specs.Accepted.{IsSoundDay}
 use Rattle.timetable.specs.Build.{day_of}
 use Rattle.timetable.specs.Plans.{plan_of}

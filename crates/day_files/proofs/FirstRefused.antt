@@ -8,9 +8,9 @@ use Rattle.rail_csv.specs.declared.rows.PlanRow.{PlanRow}
 use Rattle.rail_csv.specs.declared.rows.Table.{Table}
 use Rattle.rail_csv.specs.declared.rows.Table.TheVariants as table
 use Rattle.rail_csv.specs.declared.refusal.TableRefusal.{TableRefusal}
-use Rattle.timetable.specs.declared.building.tables.Tables.{Tables}
-use Rattle.timetable.specs.declared.building.refusal.InstanceRefusal.{InstanceRefusal}
-use Rattle.timetable.specs.declared.building.refusal.PlanRefusal.{PlanRefusal}
+use Rattle.day_tables.specs.declared.building.tables.Tables.{Tables}
+use Rattle.day_tables.specs.declared.building.refusal.InstanceRefusal.{InstanceRefusal}
+use Rattle.day_tables.specs.declared.building.refusal.PlanRefusal.{PlanRefusal}
 use Rattle.timetable.specs.Day.{Day}
 use Rattle.timetable.specs.Build.{day_of}
 use Rattle.timetable.specs.Plans.{plan_of}

@@ -5,7 +5,7 @@ use Rattle.rail_io.specs.Folders.{FolderState, Rose, RosePast}
 use Rattle.rail_csv.specs.declared.rows.PlanRow.{PlanRow}
 use Rattle.rail_csv.specs.declared.rows.Table.{Table}
 use Rattle.rail_csv.specs.declared.rows.Table.TheVariants.{Plan}
-use Rattle.timetable.specs.declared.building.tables.Tables.{Tables}
+use Rattle.day_tables.specs.declared.building.tables.Tables.{Tables}
 use Rattle.timetable.specs.Day.{Day}
 use Rattle.timetable.specs.Build as build
 pub use Rattle.timetable.specs.DayTables.{IsWrong}

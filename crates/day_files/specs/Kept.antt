@@ -4,7 +4,7 @@ use Rattle.rail_base.specs.declared.limits.TheConstants.{MAX_TABLE_BYTES}
 use Rattle.rail_csv.specs.declared.refusal.TableRefusal.{TableRefusal}
 use Rattle.rail_csv.specs.declared.table_bytes.TableBytes.{TableBytes}
 use Rattle.rail_csv.specs.Tables.{AreShort}
-use Rattle.timetable.specs.declared.building.tables.Tables.{Tables}
+use Rattle.day_tables.specs.declared.building.tables.Tables.{Tables}
 use Rattle.timetable.specs.DayTables.{tables_of}
 use Rattle.day_files.specs.declared.tables.ReadTable.{ReadTable}
 

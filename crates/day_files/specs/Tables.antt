@@ -8,7 +8,7 @@ use Rattle.rail_csv.specs.declared.rows.Table.TheVariants as table
 use Rattle.rail_csv.specs.declared.rows.PlanRow.{PlanRow}
 use Rattle.rail_csv.specs.declared.refusal.TableRefusal.{TableRefusal}
 use Rattle.rail_csv.specs.Rows.{ArePlanRows}
-use Rattle.timetable.specs.declared.building.tables.Tables.{Tables}
+use Rattle.day_tables.specs.declared.building.tables.Tables.{Tables}
 use Rattle.timetable.specs.Day.{Day}
 use Rattle.timetable.specs.Build.{day_of}
 pub use Rattle.timetable.specs.DayTables.{AreTables, RowsOf, reading}

@@ -5,10 +5,10 @@ use Rattle.rail_csv.specs.declared.rows.Table.{Table}
 use Rattle.rail_csv.specs.declared.rows.Table.TheVariants.{Types, Stock, Trips, Links, Plan}
 use Rattle.rail_csv.specs.declared.refusal.TableRefusal.{TableRefusal}
 use Rattle.rail_csv.specs.declared.refusal.TableRefusal.TheVariants as wrong
-use Rattle.timetable.specs.declared.building.refusal.InstanceRefusal.{InstanceRefusal}
-use Rattle.timetable.specs.declared.building.refusal.InstanceRefusal.TheVariants as instance
-use Rattle.timetable.specs.declared.building.refusal.PlanRefusal.{PlanRefusal}
-use Rattle.timetable.specs.declared.building.refusal.PlanRefusal.TheVariants as plan
+use Rattle.day_tables.specs.declared.building.refusal.InstanceRefusal.{InstanceRefusal}
+use Rattle.day_tables.specs.declared.building.refusal.InstanceRefusal.TheVariants as instance
+use Rattle.day_tables.specs.declared.building.refusal.PlanRefusal.{PlanRefusal}
+use Rattle.day_tables.specs.declared.building.refusal.PlanRefusal.TheVariants as plan
 use Rattle.day_files.specs.declared.errors.Refusal.{Refusal}
 use Rattle.day_files.specs.declared.errors.Refusal.TheVariants.{TooLong, WrongTable, NoDay, NoPlan}
 use Rattle.rail_csv.specs.Tables.{column_name}

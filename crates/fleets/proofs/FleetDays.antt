@@ -6,7 +6,7 @@ use Rattle.rail_base.specs.declared.limits.TheConstants.{MAX_UNITS, MAX_COMPOSIT
 use Rattle.rules.specs.declared.records.UnitType.{UnitType}
 use Rattle.rail_csv.specs.declared.rows.LinkRow.{LinkRow}
 use Rattle.rail_csv.specs.declared.rows.TripRow.{TripRow}
-use Rattle.timetable.specs.declared.building.tables.Tables.{Tables}
+use Rattle.day_tables.specs.declared.building.tables.Tables.{Tables}
 use Rattle.rules.specs.declared.records.Link.{Link}
 use Rattle.rules.specs.declared.records.Station.{Station}
 use Rattle.rules.specs.declared.records.Stock.{Stock}

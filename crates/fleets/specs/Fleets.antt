@@ -4,7 +4,7 @@ use Rattle.std.specs.Prelude.{ℕ, ◌≡◌, ◌+◌, ◌*◌, ◌/◌, ◌%◌
 use Rattle.std.specs.List.{AllZip}
 use Rattle.rail_base.specs.declared.limits.TheConstants.{MAX_UNITS}
 use Rattle.rail_csv.specs.declared.rows.StockRow.{StockRow}
-use Rattle.timetable.specs.declared.building.tables.Tables.{Tables}
+use Rattle.day_tables.specs.declared.building.tables.Tables.{Tables}
 use Rattle.rules.specs.declared.records.Stock.{Stock}
 use Rattle.timetable.specs.Day.{Day}
 use Rattle.timetable.specs.DerivedDays.{with_stock}

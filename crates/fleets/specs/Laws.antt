@@ -1,6 +1,6 @@
 -- What is so of fleets and of the days with them.
 use Rattle.std.specs.Prelude.{ℕ, ◌≡◌, ◌<◌, ◌+◌, ◌*◌, List, length, map, slice_index, take, Ok}
-use Rattle.timetable.specs.declared.building.tables.Tables.{Tables}
+use Rattle.day_tables.specs.declared.building.tables.Tables.{Tables}
 use Rattle.timetable.specs.Accepted.{IsSoundDay}
 use Rattle.timetable.specs.Build.{day_of}
 use Rattle.timetable.specs.Cost.{plan_cost}

@@ -3,7 +3,7 @@ use Rattle.std.proofs.Common.{◌≡◌, ℕ, List, [], ◌∷◌, Result, Ok, E
 use Rattle.std.specs.Prelude.{length, nat_lt, if◌then◌else◌}
 use Rattle.std.proofs.lemmas.Bool.{ltb-false, false≢true}
 use Rattle.rail_csv.specs.declared.rows.PlanRow.{PlanRow}
-use Rattle.timetable.specs.declared.building.refusal.PlanRefusal.TheVariants.{MissingTrip}
+use Rattle.day_tables.specs.declared.building.refusal.PlanRefusal.TheVariants.{MissingTrip}
 use Rattle.timetable.specs.Day.{Day}
 use Rattle.timetable.specs.Laws.{IsDecided, DaysAreMade, PlansAreMade, ChainsAreOne}
 use Rattle.timetable.specs.Build.{day_of}

@@ -1,14 +1,16 @@
 -- The hand-overs of a day: each is that of a join or a split, and each of these has one.
 use Rattle.std.proofs.Common.{◌≡◌, ℕ, zero, suc, ◌+◌, ◌<◌, ◌≤◌, List, [], ◌∷◌, ◌++◌, Option, Some, None, refl}
-use Rattle.std.proofs.Common.{sym, ap, subst, ◌∙◌, arith, slice_get}
+use Rattle.std.proofs.Common.{sym, ap, subst, ◌∙◌, arith, slice_get, length, drop, get_or, append_assoc}
 use Rattle.std.specs.List.{All, AllPairs, Contains}
 use Rattle.std.proofs.lemmas.List.Elements.{All-nil, All-cons, All-append, All-weaker, Contains-append_left}
 use Rattle.std.proofs.lemmas.List.Elements.{Contains-append_right, Contains-push}
 use Rattle.std.proofs.lemmas.List.Kept.{AllPairs-cons}
 use Rattle.std.proofs.lemmas.Option.{same_Some}
 use Rattle.rules.specs.declared.records.Link.{Link}
+use Rattle.timetable.specs.declared.day.records.Handover.{Handover}
 use Rattle.timetable.specs.Day.{Day}
 use Rattle.timetable.specs.Handovers.{second_of, IsHandover, AreHandovers, handover_at, handovers_from, handovers_of}
+use Rattle.timetable.proofs.EachRow.{row_first}
 
 -- links numbered from a number on, among all links
 record AreFrom (all : List Link) (number : ℕ) (links : List Link) : Type 0 where
@@ -80,3 +82,13 @@ are_handovers day = record {
       subst (λ (n : ℕ). Contains (handovers_from 0 day.links) (record { link = n; second = t })) same (all_from 0 l t link day.links at is));
   rise = rise_from 0 day.links;
 }
+
+-- the hand-over of a link is added, if it has one, and all hand-overs are the same
+pub handovers_more : (handovers after : List Handover) (links : List Link) (i : ℕ) (link : Link) (whole : List Handover)
+    → i < length links → link ≡ get_or links i link → after ≡ handovers ++ handover_at i (second_of link.kind)
+    → handovers ++ handovers_from i (drop i links) ≡ whole → after ++ handovers_from (i + 1) (drop (i + 1) links) ≡ whole
+handovers_more handovers after links i link whole inside is added so_far =
+    ap (λ (hs : List Handover). hs ++ handovers_from (i + 1) (drop (i + 1) links)) added
+    ∙ append_assoc handovers (handover_at i (second_of link.kind)) (handovers_from (i + 1) (drop (i + 1) links))
+    ∙ sym (ap (λ (later : List Link). handovers ++ handovers_from i later) (row_first links i link inside is))
+    ∙ so_far

@@ -9,8 +9,8 @@ use Rattle.std.proofs.lemmas.List.Elements.{All-nil}
 use Rattle.std.proofs.lemmas.Option.{slice_get_within, slice_get_past}
 use Rattle.rail_csv.specs.declared.rows.PlanRow.{PlanRow}
 use Rattle.rules.specs.declared.records.Trip.{Trip}
-use Rattle.timetable.specs.declared.building.refusal.PlanRefusal.{PlanRefusal}
-use Rattle.timetable.specs.declared.building.refusal.PlanRefusal.TheVariants.{WrongTrip, UnknownUnit}
+use Rattle.day_tables.specs.declared.building.refusal.PlanRefusal.{PlanRefusal}
+use Rattle.day_tables.specs.declared.building.refusal.PlanRefusal.TheVariants.{WrongTrip, UnknownUnit}
 use Rattle.timetable.specs.Day.{Day, unit_count}
 use Rattle.timetable.specs.Links.{list_of}
 use Rattle.timetable.specs.Lists.{count_of}

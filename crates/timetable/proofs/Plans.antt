@@ -13,8 +13,8 @@ use Rattle.rail_base.specs.Answers.{Unless, Gives}
 use Rattle.rail_base.proofs.Answers.{Unless-then}
 use Rattle.rail_csv.specs.declared.rows.PlanRow.{PlanRow}
 use Rattle.rules.specs.declared.records.Trip.{Trip}
-use Rattle.timetable.specs.declared.building.refusal.PlanRefusal.{PlanRefusal}
-use Rattle.timetable.specs.declared.building.refusal.PlanRefusal.TheVariants.{WrongTrip, UnknownUnit, MissingTrip}
+use Rattle.day_tables.specs.declared.building.refusal.PlanRefusal.{PlanRefusal}
+use Rattle.day_tables.specs.declared.building.refusal.PlanRefusal.TheVariants.{WrongTrip, UnknownUnit, MissingTrip}
 use Rattle.timetable.specs.Day.{Day, unit_count}
 use Rattle.timetable.specs.Plans.{NamesTrip, AreRunRows, IsPlanOf, run_tests, plan_tests, is_named, are_units}
 use Rattle.timetable.specs.Plans.{accept_list, lists_in, plan_of, is_memory}

@@ -12,7 +12,7 @@ use Rattle.timetable.specs.declared.day.records.Handover.{Handover}
 use Rattle.rules.specs.declared.records.Link.{Link}
 use Rattle.rules.specs.declared.records.LinkKind.{LinkKind}
 use Rattle.rules.specs.declared.records.LinkKind.TheVariants.{Turn, Join, Split}
-use Rattle.timetable.specs.declared.building.tables.Tables.{Tables}
+use Rattle.day_tables.specs.declared.building.tables.Tables.{Tables}
 use Rattle.timetable.specs.Accepted.{AreLinks, DoMeet}
 use Rattle.timetable.specs.Build.{day_of}
 use Rattle.timetable.specs.Chains.{times_in, AreChains}

@@ -3,7 +3,7 @@
 use Rattle.std.specs.Prelude.{◌≡◌, ◌≤◌, length}
 use Rattle.rail_base.specs.declared.limits.TheConstants.{MAX_COMPOSITIONS}
 use Rattle.compositions.specs.Catalogue.{catalogue_of}
-use Rattle.timetable.specs.declared.building.accepted.AcceptedRows.{AcceptedRows}
+use Rattle.day_tables.specs.declared.building.accepted.AcceptedRows.{AcceptedRows}
 use Rattle.timetable.specs.declared.day.instance.Instance.TheInside.{Inside}
 use Rattle.timetable.specs.declared.day.instance.InstanceParts.{InstanceParts}
 use Rattle.timetable.specs.AcceptedRows.{day_with}

@@ -7,7 +7,7 @@ use Rattle.std.specs.List.{AllPairs}
 use Rattle.compositions.specs.Composition.{seats_of, first_seats_of}
 use Rattle.rules.specs.declared.records.End.{End}
 use Rattle.rail_csv.specs.declared.rows.PlanRow.{PlanRow}
-use Rattle.timetable.specs.declared.building.tables.Tables.{Tables}
+use Rattle.day_tables.specs.declared.building.tables.Tables.{Tables}
 use Rattle.rules.specs.declared.records.LinkKind.{LinkKind}
 use Rattle.rules.specs.declared.records.Stock.{Stock}
 use Rattle.timetable.specs.Accepted.{IsTimetable, AreLinks, DoMeet, HaveNames, IsSoundDay, rows_of}

@@ -3,7 +3,7 @@ pub use Rattle.rules.specs.Lists
 pub use Rattle.rules.specs.Day
 pub mod Starts
 pub use Rattle.rules.specs.Admissible
-pub mod Compositions
+pub use Rattle.day_tables.specs.Compositions
 -- which plans of it run, and what they cost
 pub use Rattle.rules.specs.Turns
 pub mod TurnsWithoutExchange
@@ -22,26 +22,26 @@ pub mod Minutes
 -- its multipliers
 pub mod Indices
 -- which tables make a day, and which rows make a plan
-pub mod Rowwise
-pub mod Tests
-pub mod NamedEntries
-pub mod LinkRows
-pub mod Build
-pub mod DayTables
+pub use Rattle.day_tables.specs.Rowwise
+pub use Rattle.day_tables.specs.Tests
+pub use Rattle.day_tables.specs.NamedEntries
+pub use Rattle.day_tables.specs.LinkRows
+pub use Rattle.day_tables.specs.Build
+pub use Rattle.day_tables.specs.DayTables
 pub mod Plans
-pub mod Meaning
-pub mod Refusals
+pub use Rattle.day_tables.specs.Meaning
+pub use Rattle.day_tables.specs.Refusals
 -- what is known of accepted days and entries
 pub mod Accepted
-pub mod Within
-pub mod DerivedDays
+pub use Rattle.day_tables.specs.Within
+pub use Rattle.day_tables.specs.DerivedDays
 -- what is so of every day, table and plan
 pub mod Laws
 -- the inside of an instance, and of the building of one
-pub mod AcceptedRows
-pub mod LinkTables
+pub use Rattle.day_tables.specs.AcceptedRows
+pub use Rattle.day_tables.specs.LinkTables
 pub mod InstanceParts
-pub mod Flags
-pub mod Flagged
+pub use Rattle.day_tables.specs.Flags
+pub use Rattle.day_tables.specs.Flagged
 pub mod Beside
 pub use Rattle.rules.specs.Composition

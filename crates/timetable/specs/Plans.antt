@@ -6,9 +6,9 @@ use Rattle.std.specs.Str.{bytes_eq}
 use Rattle.rail_base.specs.Answers.{◌>>=◌}
 use Rattle.rail_csv.specs.declared.rows.PlanRow.{PlanRow}
 use Rattle.rules.specs.declared.records.Trip.{Trip}
-use Rattle.timetable.specs.declared.building.refusal.PlanRefusal.{PlanRefusal}
-use Rattle.timetable.specs.declared.building.refusal.PlanRefusal.TheVariants.{WrongTrip, UnknownUnit, MissingTrip}
-use Rattle.timetable.specs.declared.building.refusal.PlanRefusal.TheVariants.{NoMemory}
+use Rattle.day_tables.specs.declared.building.refusal.PlanRefusal.{PlanRefusal}
+use Rattle.day_tables.specs.declared.building.refusal.PlanRefusal.TheVariants.{WrongTrip, UnknownUnit, MissingTrip}
+use Rattle.day_tables.specs.declared.building.refusal.PlanRefusal.TheVariants.{NoMemory}
 use Rattle.timetable.specs.Day.{Day, unit_count}
 use Rattle.timetable.specs.Rowwise.{row_after, accept_each}
 use Rattle.timetable.specs.Tests.{Test, ◌when◌, row_tests}

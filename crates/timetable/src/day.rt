@@ -4,7 +4,6 @@ pub(crate) mod chains;
 pub mod derived;
 pub mod indices;
 pub mod instance;
-pub(crate) mod link_tables;
 pub(crate) mod minutes;
 pub mod picks;
 pub mod plan;

@@ -1,13 +1,9 @@
 //! The day that is planned: its types, stations, stock, trips and links, and plans of it.
 #![tactic(auto)]
 
-pub mod building;
 pub mod day;
 pub mod laws;
 
-pub use building::day_tables::{DayTable, WrongTable, tables_of};
-pub use building::refusal::{InstanceRefusal, PlanRefusal};
-pub use building::tables::{Rows, Tables};
 pub use day::indices::Place;
 pub use day::instance::Instance;
 pub use day::minutes::insert_minute;
@@ -17,4 +13,5 @@ pub use day::records::{Handover, Link, LinkKind, LinkTrips, Station, Stock, Trip
 pub use day::rule::{kept_by, link_holds};
 pub use day::trip_entry::TripEntry;
 pub use day::turns::staying_units;
+pub use day_tables::{DayTable, InstanceRefusal, PlanRefusal, Rows, Tables, WrongTable, tables_of};
 pub use rules::{beyond, copy_of, staying, turned};

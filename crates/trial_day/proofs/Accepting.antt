@@ -11,7 +11,7 @@ use Rattle.rail_csv.specs.declared.rows.StationRow.{StationRow}
 use Rattle.rail_csv.specs.declared.rows.StockRow.{StockRow}
 use Rattle.rail_csv.specs.declared.rows.TripRow.{TripRow}
 use Rattle.rail_csv.specs.declared.rows.TypeRow.{TypeRow}
-use Rattle.timetable.specs.declared.building.tables.Tables.{Tables}
+use Rattle.day_tables.specs.declared.building.tables.Tables.{Tables}
 use Rattle.timetable.specs.Build.{type_in}
 use Rattle.timetable.specs.Lists.{listed}
 use Rattle.timetable.specs.Refusals.{HasNoName, IsUnserved, IsNoStation, UsesTwice, NamesArriving, NamesDeparting}

@@ -7,8 +7,8 @@ use Rattle.std.proofs.lemmas.List.Elements.{All-nil, All-append, All-from_recurs
 use Rattle.std.proofs.lemmas.List.Elements.{Contains-append_right}
 use Rattle.std.proofs.lemmas.Option.{slice_get_within, get_or_from_slice_get}
 use Rattle.rail_base.specs.Answers.{Unless}
-use Rattle.timetable.specs.declared.building.refusal.InstanceRefusal.{InstanceRefusal}
-use Rattle.timetable.specs.declared.building.refusal.InstanceRefusal.TheVariants.{NoMemory}
+use Rattle.day_tables.specs.declared.building.refusal.InstanceRefusal.{InstanceRefusal}
+use Rattle.day_tables.specs.declared.building.refusal.InstanceRefusal.TheVariants.{NoMemory}
 use Rattle.timetable.specs.Build.{is_memory}
 use Rattle.timetable.specs.Lists.{listed, joined}
 use Rattle.timetable.specs.Rowwise.{row_after}

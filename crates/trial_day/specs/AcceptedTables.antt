@@ -1,7 +1,7 @@
 -- What is so of the tables of trial days: their rows are within the limits, and no test of a day fails on them.
 use Rattle.std.specs.Prelude.{ℕ, IsOk}
 use Rattle.rail_csv.specs.Rows.{AreTypeRows, AreStationRows, AreStockRows, AreTripRows, AreLinkRows, IsWeightsRow}
-use Rattle.timetable.specs.declared.building.tables.Tables.{Tables}
+use Rattle.day_tables.specs.declared.building.tables.Tables.{Tables}
 use Rattle.timetable.specs.Build.{day_of}
 use Rattle.timetable.specs.Refusals.{day_tests}
 use Rattle.timetable.specs.Tests.{NoneFailed}

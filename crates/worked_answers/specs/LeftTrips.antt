@@ -1,6 +1,6 @@
 -- The day without some trips: that it is as the laws on days ask for it, and how its trips run.
 use Rattle.std.specs.Prelude.{ℕ, ◌≡◌, ◌<◌, List, length, false, Ok}
-use Rattle.timetable.specs.declared.building.tables.Tables.{Tables}
+use Rattle.day_tables.specs.declared.building.tables.Tables.{Tables}
 use Rattle.timetable.specs.Accepted.{IsSoundDay}
 use Rattle.timetable.specs.Build.{day_of}
 use Rattle.timetable.specs.Cost.{trip_cost}

@@ -6,8 +6,8 @@ ghost use Rattle.timetable.specs.Handovers.{handovers_from};
 ghost use Rattle.timetable.specs.Links.{arriving_in, departing_in};
 ghost use Rattle.timetable.specs.LinkTables.{link_table};
 
-use crate::day::link_tables::{Side, links_by_trip};
 use crate::day::records::{Handover, Link, LinkKind};
+use day_tables::{Side, links_by_trip};
 use rail_base::limits::{MAX_LINKS, MAX_TRIPS};
 use rail_base::{LinkNo, NoMemory, TripNo};
 use std::alloc::Global;

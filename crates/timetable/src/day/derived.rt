@@ -5,9 +5,8 @@ ghost use Rattle.timetable.specs.DayTables.{IsDayOfBytes};
 ghost use Rattle.timetable.specs.DerivedDays.{old_numbers, without_trips};
 ghost use Rattle.timetable.specs.Lists.{listed};
 
-use crate::building::day_tables::tables_of;
-use crate::building::left_tables::take_out;
 use crate::day::instance::Instance;
+use day_tables::{tables_of, take_out};
 use rail_base::{NoMemory, TripNo};
 use rail_csv::TableBytes;
 use std::alloc::Global;

@@ -25,15 +25,11 @@ ghost use Rattle.timetable.specs.Tests.{NoneFailed, IsFirstFailed};
 ghost use Rattle.timetable.specs.Turns.{kept_of, IsKept};
 ghost use Rattle.timetable.specs.Within.{AreTypes, IsStation, IsUnitAt, IsTripAt, IsLinkAt, AreWeights};
 
-use crate::building::accepted::{AcceptedRows, accept};
-use crate::building::entries::longest_between;
-use crate::building::named::find_name;
-use crate::building::refusal::InstanceRefusal;
-use crate::building::tables::Tables;
 use crate::day::chains::{Chain, Linking, linking_of};
 use crate::day::minutes::{Minutes, minutes_of};
 use crate::day::records::{Handover, Link, Station, Stock, Trip, Unit, Weights};
 use compositions::{Catalogue, UnitTypes};
+use day_tables::{AcceptedRows, InstanceRefusal, Tables, accept, find_name, longest_between};
 use rail_base::limits::{
     MAX_COMPOSITION_UNITS, MAX_HANDOVERS, MAX_LINKS, MAX_MINUTES, MAX_REALLOCATION, MAX_STATIONS,
     MAX_TRIPS, MAX_UNITS,
@@ -177,7 +173,7 @@ impl Instance {
     }
 
     /// The compositions that fit the greatest platform of the stations; none where there is no station.
-    #[tactic(auto, unfolding(crate::specs::Compositions::greatest_platform))]
+    #[tactic(auto, unfolding(day_tables::specs::Compositions::greatest_platform))]
     pub fn catalogue(&self) -> &Catalogue
         ensures { result.now ≡ compositions_of self.now }
     {
@@ -186,7 +182,7 @@ impl Instance {
 
     /// Whether the composition of this number may run on the trip: its metres fit the platforms of both stations. The
     /// trip is below `trips`, the composition below the catalogue's `len`.
-    #[tactic(auto, unfolding(crate::specs::Compositions::greatest_platform, rules::specs::Admissible::is_admissible))]
+    #[tactic(auto, unfolding(day_tables::specs::Compositions::greatest_platform, rules::specs::Admissible::is_admissible))]
     pub fn admits(&self, trip: TripNo, comp: CompNo) -> bool
         requires trip { trip < length self.now.trips }
         requires comp { comp < length (compositions_of self.now) }

@@ -8,9 +8,8 @@ ghost use Rattle.timetable.specs.Plans.{is_memory};
 ghost use Rattle.timetable.specs.Tests.{NoneFailed, IsFirstFailed};
 ghost use Rattle.timetable.specs.Running.{IsPlan};
 
-use crate::building::entries::row_after;
-use crate::building::refusal::PlanRefusal;
 use crate::day::instance::Instance;
+use day_tables::{PlanRefusal, row_after};
 use rail_base::limits::{MAX_COMPOSITION_UNITS, MAX_TRIPS};
 use rail_base::{Name, NoMemory, TripNo, UnitNo};
 use rail_csv::{PlanRow, UnitList};

@@ -1,7 +1,7 @@
 -- The text of each refusal is that of a row, or of fixed words.
 use Rattle.std.proofs.Common.{◌≡◌, Global, Result, String, IfOk, string_bytes, sym, subst}
 use Rattle.rail_base.specs.declared.memory.NoMemory.{NoMemory}
-use Rattle.timetable.specs.declared.building.refusal.InstanceRefusal.{InstanceRefusal}
+use Rattle.day_tables.specs.declared.building.refusal.InstanceRefusal.{InstanceRefusal}
 use Rattle.day_files.specs.Texts.{instance_text}
 use Rattle.day_files.proofs.texts.instance_text.Goals as goal
 

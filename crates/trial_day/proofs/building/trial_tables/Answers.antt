@@ -1,5 +1,5 @@
 use Rattle.std.proofs.Common.{◌≡◌, ◌∙◌, sym, subst}
-use Rattle.timetable.specs.declared.building.tables.Tables.{Tables}
+use Rattle.day_tables.specs.declared.building.tables.Tables.{Tables}
 use Rattle.trial_day.specs.AcceptedTables.{MakeADay}
 use Rattle.trial_day.specs.Trial.{trial_tables_of, trial_weights}
 use Rattle.trial_day.proofs.Accepting.{trial_days_are_accepted}

@@ -2,7 +2,7 @@
 use Rattle.std.proofs.Common.{◌≡◌, ◌∙◌, ◌++◌, ap, sym, Option, ℕ, append-nil}
 use Rattle.timetable.specs.Handovers.{handover_at, second_of}
 use Rattle.rules.specs.declared.records.Link.{Link}
-use Rattle.timetable.proofs.EachRow.{handovers_more}
+use Rattle.timetable.proofs.Handovers.{handovers_more}
 use Rattle.timetable.proofs.day.chains.handovers_of.Goals as goal
 use Rattle.timetable.proofs.day.chains.handovers_of.Goals.{in-Some+in_ok-push, in_default}
 

@@ -1,6 +1,6 @@
 -- What the rows give is counted and listed as in their day.
 use Rattle.std.proofs.Common.{◌≡◌, ◌∙◌, ◌<◌, ℕ, List, length, ap, sym, arith}
-use Rattle.timetable.specs.declared.building.accepted.AcceptedRows.{AcceptedRows}
+use Rattle.day_tables.specs.declared.building.accepted.AcceptedRows.{AcceptedRows}
 use Rattle.rules.specs.declared.records.Link.{Link}
 use Rattle.rules.specs.declared.records.Trip.{Trip}
 use Rattle.timetable.specs.Chains.{chains_below, chains_of, next_in}

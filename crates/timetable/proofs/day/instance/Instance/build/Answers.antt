@@ -1,6 +1,6 @@
 -- The day is that of the accepted rows, and keeps within the limits.
 use Rattle.std.proofs.Common.{◌≡◌, ◌≤◌, ℕ, List, length, refl, sym, subst, rules, Ok}
-use Rattle.timetable.specs.declared.building.accepted.AcceptedRows.{AcceptedRows}
+use Rattle.day_tables.specs.declared.building.accepted.AcceptedRows.{AcceptedRows}
 use Rattle.timetable.specs.AcceptedRows.{day_with}
 use Rattle.timetable.specs.Build.{day_of}
 use Rattle.timetable.specs.Day.{Day}

@@ -1,7 +1,7 @@
 -- The tables that are left make the day without these trips.
 use Rattle.std.proofs.Common.{◌≡◌, ◌∙◌, Ok, ap, sym, subst}
 use Rattle.rail_csv.specs.Rows.{AreTypeRows, AreStationRows, AreStockRows, AreTripRows, AreLinkRows, IsWeightsRow}
-use Rattle.timetable.specs.declared.building.tables.Tables.{Tables}
+use Rattle.day_tables.specs.declared.building.tables.Tables.{Tables}
 use Rattle.timetable.specs.Build.{day_of}
 use Rattle.timetable.specs.DerivedDays.{without_trips, tables_without}
 use Rattle.timetable.proofs.Accepting.{same_ok}

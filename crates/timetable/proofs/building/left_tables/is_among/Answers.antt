@@ -1,7 +1,0 @@
--- A number is in a list where an entry is the number.
-use Rattle.std.proofs.Common.{◌∙◌}
-use Rattle.timetable.proofs.ListedUnits.{list_any-has}
-use Rattle.timetable.proofs.building.left_tables.is_among.Goals as goal
-
-pub returns : goal.returns
-returns c = c.contains.ensures.value ∙ list_any-has c.args.gone.now c.args.trip
