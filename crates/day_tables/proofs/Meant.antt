@@ -52,8 +52,7 @@ use Rattle.day_tables.specs.Lists.{count_of, has}
 use Rattle.day_tables.specs.Meaning.{IsTypeOf, IsStationOf, AreWeightsOf, IsStockOf, IsTripOf, IsTurnOf}
 use Rattle.day_tables.specs.NamedEntries.{IsNumberOf}
 use Rattle.day_tables.specs.Meaning.{IsJoinOf, IsSplitOf, IsKindOf, IsLinkOf, IsOtherStock, IsDayOf}
-use Rattle.day_tables.specs.NamedEntries.{AreNamedApart}
-use Rattle.day_tables.specs.NamedEntries.{has_name, find_name, found_or}
+use Rattle.day_tables.specs.NamedEntries.{AreNamedApart, has_name, find_name, found_or}
 use Rattle.day_tables.specs.Rowwise.{row_after}
 use Rattle.day_tables.proofs.Days.{entry_is, length-units_in}
 use Rattle.day_tables.proofs.Entries.{Passes}

@@ -10,8 +10,7 @@ use Rattle.std.proofs.lemmas.List.Folds.{Any-from_list_any}
 use Rattle.std.proofs.lemmas.Slice.Eq.{bytes_eq-Decides}
 use Rattle.rail_base.specs.Answers.{◌>>=◌}
 use Rattle.day_tables.specs.declared.building.refusal.InstanceRefusal.{InstanceRefusal}
-use Rattle.day_tables.specs.NamedEntries.{AreNamedApart}
-use Rattle.day_tables.specs.NamedEntries.{has_name, found_or}
+use Rattle.day_tables.specs.NamedEntries.{AreNamedApart, has_name, found_or}
 use Rattle.day_tables.specs.Rowwise.{accept_each}
 
 -- ---- steps that go well

@@ -23,13 +23,11 @@ use Rattle.day_tables.specs.declared.building.refusal.InstanceRefusal.TheVariant
 use Rattle.day_tables.specs.declared.building.tables.Tables.{Tables}
 use Rattle.day_tables.specs.Build.{has_stock, new_stock, has_fitting, platform_at, accept_type, accept_station}
 use Rattle.day_tables.specs.Build.{accept_stock, accept_trip, accept_run, type_in, station_in, types_in, stations_in}
-use Rattle.day_tables.specs.Build.{stock_in, trips_in, trip_between, starts_of, catalogue_in, is_memory}
-use Rattle.day_tables.specs.Build.{day_of}
+use Rattle.day_tables.specs.Build.{stock_in, trips_in, trip_between, starts_of, catalogue_in, is_memory, day_of}
 use Rattle.day_tables.specs.Compositions.{greatest_in}
 use Rattle.day_tables.specs.Day.{Day}
 use Rattle.day_tables.specs.LinkRows.{links_in}
-use Rattle.day_tables.specs.NamedEntries.{AreNamedApart}
-use Rattle.day_tables.specs.NamedEntries.{has_name, find_name}
+use Rattle.day_tables.specs.NamedEntries.{AreNamedApart, has_name, find_name}
 use Rattle.day_tables.specs.Refusals.{type_tests, station_tests, stock_tests, starts_in, compositions_in, IsUnserved}
 use Rattle.day_tables.specs.Refusals.{trip_tests, link_tests, day_tests}
 use Rattle.day_tables.specs.Tests.{◌when◌, NoneFailed, IsFirstFailed, row_tests}

@@ -11,8 +11,7 @@ use Rattle.std.proofs.lemmas.List.Sums.{fails_before_first}
 use Rattle.std.proofs.lemmas.Option.{slice_get_within, slice_get-map, slice_get-get_or, same_Some}
 use Rattle.std.proofs.lemmas.Option.{get_or_from_slice_get}
 use Rattle.std.proofs.lemmas.Slice.Eq.{bytes_eq-Decides}
-use Rattle.day_tables.specs.NamedEntries.{IsNumberOf, AreNamedApart}
-use Rattle.day_tables.specs.NamedEntries.{has_name, find_name}
+use Rattle.day_tables.specs.NamedEntries.{IsNumberOf, AreNamedApart, has_name, find_name}
 use Rattle.day_tables.specs.Refusals.{HasName, HasNoName}
 use Rattle.day_tables.proofs.Accepting.{any_front}
 use Rattle.day_tables.proofs.Days.{entry_at}

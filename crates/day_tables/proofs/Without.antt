@@ -21,8 +21,7 @@ use Rattle.day_tables.specs.Admissible.{is_admissible}
 use Rattle.day_tables.specs.Compositions.{greatest_platform}
 use Rattle.day_tables.specs.Day.{Day, leaves, arrives, from_of, to_of, platform_of, units_of}
 use Rattle.day_tables.specs.DerivedDays.{left_from, new_number, kind_with, link_with, names_gone, links_left}
-use Rattle.day_tables.specs.DerivedDays.{without_trips, is_gone, row_names_gone, tables_without}
-use Rattle.day_tables.specs.DerivedDays.{TablesMakeDaysWithout}
+use Rattle.day_tables.specs.DerivedDays.{without_trips, is_gone, row_names_gone, tables_without, TablesMakeDaysWithout}
 use Rattle.day_tables.specs.Links.{arriving_in, departing_in}
 use Rattle.day_tables.specs.Lists.{of_entry, has}
 use Rattle.day_tables.specs.Meaning.{IsStockOf, IsTripOf, IsKindOf, IsLinkOf, IsDayOf}

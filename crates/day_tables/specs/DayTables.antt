@@ -13,9 +13,8 @@ use Rattle.rail_csv.specs.declared.rows.WeightsRow.{WeightsRow}
 use Rattle.rail_csv.specs.declared.rows.PlanRow.{PlanRow}
 use Rattle.rail_csv.specs.declared.refusal.TableRefusal.{TableRefusal}
 use Rattle.rail_csv.specs.declared.table_bytes.TableBytes.{TableBytes}
-use Rattle.rail_csv.specs.Tables.{AreShort, is_memory}
-use Rattle.rail_csv.specs.Tables.{type_rows_of, station_rows_of, stock_rows_of, trip_rows_of, link_rows_of}
-use Rattle.rail_csv.specs.Tables.{weights_row_of, plan_rows_of}
+use Rattle.rail_csv.specs.Tables.{AreShort, is_memory, type_rows_of, station_rows_of, stock_rows_of, trip_rows_of}
+use Rattle.rail_csv.specs.Tables.{link_rows_of, weights_row_of, plan_rows_of}
 use Rattle.rail_csv.specs.Rows.{AreTypeRows, AreStationRows, AreStockRows, AreTripRows, AreLinkRows, IsWeightsRow}
 use Rattle.day_tables.specs.declared.building.tables.Tables.{Tables}
 use Rattle.day_tables.specs.declared.building.day_tables.WrongTable.{WrongTable}

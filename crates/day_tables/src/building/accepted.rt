@@ -16,10 +16,10 @@ use crate::building::link_rows::links_of;
 use crate::building::named::Named;
 use crate::building::refusal::InstanceRefusal;
 use crate::building::tables::{Rows, Tables};
-use rules::{Link, Station, Stock, Trip, Weights};
 use compositions::{Catalogue, UnitType, UnitTypes};
 use rail_base::limits::MAX_STATIONS;
 use rail_csv::{LinkRow, StationRow, StockRow, TripRow, TypeRow, WeightsRow};
+use rules::{Link, Station, Stock, Trip, Weights};
 use std::alloc::Global;
 
 /// The entries of a day that the rows of its tables make, and the catalogue of its compositions.

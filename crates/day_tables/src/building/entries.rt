@@ -14,11 +14,11 @@ ghost use Rattle.day_tables.specs.Rowwise.{accept_each};
 use crate::building::named::Named;
 use crate::building::refusal::InstanceRefusal;
 use crate::building::tables::Rows;
-use rules::{Station, Stock, Trip};
 use compositions::{Catalogue, CatalogueRefusal, UnitType, UnitTypes};
 use rail_base::limits::{MAX_STATIONS, MAX_STOCK_ROWS, MAX_TRIPS, MAX_TYPES, MAX_UNITS};
 use rail_base::{Name, StationNo, TypeNo};
 use rail_csv::{StationRow, StockRow, Table, TripRow, TypeRow};
+use rules::{Station, Stock, Trip};
 use std::alloc::Global;
 
 /// The number of the row after so many, counted from 1. No table has more rows than trips may have.

@@ -14,10 +14,10 @@ use crate::building::linked::Linked;
 use crate::building::named::Named;
 use crate::building::refusal::InstanceRefusal;
 use crate::building::tables::Rows;
-use rules::{Link, LinkKind, Trip};
 use rail_base::limits::{MAX_LINKS, MAX_TRIPS};
 use rail_base::{Name, TripNo};
 use rail_csv::{End, KindWord, LinkRow, Table};
+use rules::{Link, LinkKind, Trip};
 use std::alloc::Global;
 
 /// The number of the trip that a column of a row names.

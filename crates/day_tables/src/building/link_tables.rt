@@ -5,9 +5,9 @@ ghost use Rattle.day_tables.specs.LinkRows.{AreBelow, NamesBelow};
 ghost use Rattle.day_tables.specs.Links.{trip_list};
 ghost use Rattle.day_tables.specs.LinkTables.{trips_on, noted, link_table};
 
-use rules::{Link, LinkKind, LinkTrips};
 use rail_base::limits::MAX_LINKS;
 use rail_base::{LinkNo, NoMemory, TripNo};
+use rules::{Link, LinkKind, LinkTrips};
 use std::alloc::Global;
 
 /// A side of a link: the trips that arrive for it, or those that depart by it.

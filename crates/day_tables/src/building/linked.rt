@@ -6,8 +6,8 @@ ghost use Rattle.day_tables.specs.LinkRows.{NamesBelow, is_arriving, is_departin
 ghost use Rattle.day_tables.specs.LinkTables.{trips_on};
 
 use crate::building::link_tables::Side;
-use rules::{Link, LinkKind};
 use rail_base::{NoMemory, TripNo};
+use rules::{Link, LinkKind};
 use std::alloc::Global;
 use std::marker::Model;
 

@@ -3,10 +3,10 @@
 ghost use Rattle.std.specs.Prelude.{◌≡◌, ◌<◌, ◌++◌, ◌∷◌, [], List, ℕ, length, false, IfSome, OnOk, OnErr};
 ghost use Rattle.day_tables.specs.NamedEntries.{has_name, find_name};
 
-use rules::{Station, Trip};
 use compositions::UnitType;
 use indexmap::IndexSet;
 use rail_base::{Name, NoMemory};
+use rules::{Station, Trip};
 use std::alloc::Global;
 use std::marker::Model;
 
