@@ -75,6 +75,12 @@ pub means : (most : ℕ) (text : List ℕ) (read : Option ℕ) → read ≡ numb
 means most text read is spelled =
     (λ e. number_back most text spelled (sym is ∙ e), λ number. is ∙ number_forth most text spelled number)
 
+pub or_means : (usual most : ℕ) (text : Option (List ℕ)) (read : Option ℕ) → read ≡ option_number usual most text
+    → (given : ℕ) → (read ≡ Some given) ↔ IsNumberOr usual most text given
+or_means usual most None read is given =
+    (λ e. let same : Some given ≡ Some usual = sym e ∙ is in cc, λ same. is ∙ ap (λ (n : ℕ). Some n) (sym same))
+or_means usual most (Some text) read is given = means most text read is given
+
 -- ---- an option of the words
 
 -- an option has no more values than it is given times
