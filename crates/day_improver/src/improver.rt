@@ -72,8 +72,8 @@ impl<'a> Work<'a> {
         })
     }
 
-    /// Looks for a ray of a region, by so many evaluations of the bound without cost at most, and tells whether the best
-    /// multipliers are one.
+    /// Looks for a ray of a region, by so many evaluations of the bound without cost at most, and tells whether the
+    /// best multipliers are one.
     fn finds_ray(&mut self, region: &Region, evaluations: u32) -> bool {
         self.ascent.restart_for_ray();
         for _ in 0..evaluations {

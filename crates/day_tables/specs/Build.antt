@@ -23,7 +23,8 @@ use Rattle.day_tables.specs.declared.building.tables.Tables.{Tables}
 use Rattle.day_tables.specs.declared.building.refusal.InstanceRefusal.{InstanceRefusal}
 use Rattle.day_tables.specs.declared.building.refusal.InstanceRefusal.TheVariants.{RepeatedName, UnknownName}
 use Rattle.day_tables.specs.declared.building.refusal.InstanceRefusal.TheVariants.{RepeatedStock}
-use Rattle.day_tables.specs.declared.building.refusal.InstanceRefusal.TheVariants.{ArrivalNotAfterDeparture, SameStation}
+use Rattle.day_tables.specs.declared.building.refusal.InstanceRefusal.TheVariants.{ArrivalNotAfterDeparture}
+use Rattle.day_tables.specs.declared.building.refusal.InstanceRefusal.TheVariants.{SameStation}
 use Rattle.day_tables.specs.declared.building.refusal.InstanceRefusal.TheVariants.{NoComposition, TooManyUnits}
 use Rattle.day_tables.specs.declared.building.refusal.InstanceRefusal.TheVariants.{TooManyCompositions, NoMemory}
 use Rattle.day_tables.specs.Compositions.{greatest_in}

@@ -17,9 +17,9 @@ use Rattle.rail_csv.specs.declared.rows.TypeRow.{TypeRow}
 use Rattle.rail_csv.specs.declared.rows.Table.TheVariants as names
 use Rattle.day_tables.specs.declared.building.refusal.InstanceRefusal.{InstanceRefusal}
 use Rattle.day_tables.specs.declared.building.refusal.InstanceRefusal.TheVariants.{RepeatedName, UnknownName}
-use Rattle.day_tables.specs.declared.building.refusal.InstanceRefusal.TheVariants.{RepeatedStock}
-use Rattle.day_tables.specs.declared.building.refusal.InstanceRefusal.TheVariants.{ArrivalNotAfterDeparture, SameStation}
-use Rattle.day_tables.specs.declared.building.refusal.InstanceRefusal.TheVariants.{TripUsedTwice, WrongStation, TooEarly}
+use Rattle.day_tables.specs.declared.building.refusal.InstanceRefusal.TheVariants.{SameStation, RepeatedStock}
+use Rattle.day_tables.specs.declared.building.refusal.InstanceRefusal.TheVariants.{ArrivalNotAfterDeparture, TooEarly}
+use Rattle.day_tables.specs.declared.building.refusal.InstanceRefusal.TheVariants.{TripUsedTwice, WrongStation}
 use Rattle.day_tables.specs.declared.building.refusal.InstanceRefusal.TheVariants.{WrongLinkFields, NoComposition}
 use Rattle.day_tables.specs.declared.building.refusal.InstanceRefusal.TheVariants.{TooManyUnits, TooManyCompositions}
 use Rattle.day_tables.specs.declared.building.tables.Tables.{Tables}

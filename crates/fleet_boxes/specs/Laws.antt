@@ -24,8 +24,8 @@ SplitsPart = (box : FleetBox) (place at : ℕ) (fleet : List ℕ) → IsParted b
 abbrev pub BoxesHaveAllFleets : Type 0
 BoxesHaveAllFleets = (day : Day) (fleet : List ℕ) → HasFleet (box_of day) fleet ↔ IsFleetOf day fleet
 
--- What fleets cost by the prices of types: nothing where no unit stands, and with one unit more, of a type at a station,
--- so much more as a unit of the type costs.
+-- What fleets cost by the prices of types: nothing where no unit stands, and with one unit more, of a type at a
+-- station, so much more as a unit of the type costs.
 pub record IsCostOfUnits (prices : List ℕ) : Type 0 where
   pub none : (places : ℕ) → fleet_cost prices (replicate places 0) ≡ 0
   pub one_more : (fleet : List ℕ) (s m : ℕ) → m < length prices → s * length prices + m < length fleet

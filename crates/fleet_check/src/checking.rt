@@ -22,8 +22,8 @@ use std::alloc::Global;
 /// Checks what was said of all fleets of a day, those that have nowhere more units than the day's stock at its start:
 /// it is valid exactly where its boxes are proved, the number of splits is the one said, a chosen plan is there exactly
 /// where the head has one, runs with its fleet and has the price said, and what the head says follows from the leaves.
-/// Else the verdict is the first thing that is wrong, as `FleetVerdict` orders them. What a valid one says is true of all
-/// fleets and the plans that run with them, whoever wrote it: each leaf's tree is recomputed for the day with the
+/// Else the verdict is the first thing that is wrong, as `FleetVerdict` orders them. What a valid one says is true of
+/// all fleets and the plans that run with them, whoever wrote it: each leaf's tree is recomputed for the day with the
 /// greatest fleet of its box.
 ///
 /// The day is that of the tables, the prices are those of its types, and there are at most `MAX_BOX_NODES` nodes. How

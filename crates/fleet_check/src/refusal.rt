@@ -14,8 +14,8 @@ pub enum PriceRefusal {
     /// turn it is, or has no number for its cost; or no type is left for it.
     #[error("row {0} is wrong")]
     BadRow(u32),
-    /// No row is wrong, but types are left after the last row, which has this number, counted from 1: it is 0 where there
-    /// is no row.
+    /// No row is wrong, but types are left after the last row, which has this number, counted from 1: it is 0 where
+    /// there is no row.
     #[error("a row is missing after row {0}")]
     MissingRow(u32),
     /// Want of memory.

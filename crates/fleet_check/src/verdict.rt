@@ -3,8 +3,9 @@
 use rail_base::{Money, NoMemory};
 use std::alloc::AllocFailed;
 
-/// What a check finds of what was said of all fleets of a day: that it is so, or the first of these that holds. The test
-/// of nodes is one, made node by node in preorder: of `SplitOutside` and `LeafFails` that of the earlier node comes.
+/// What a check finds of what was said of all fleets of a day: that it is so, or the first of these that holds. The
+/// test of nodes is one, made node by node in preorder: of `SplitOutside` and `LeafFails` that of the earlier node
+/// comes.
 #[derive(Clone, Copy, Debug, PartialEq, Eq)]
 pub enum FleetVerdict {
     /// Its boxes prove what it says, and its plan, where it has one, runs with its fleet at the price said.

@@ -41,8 +41,8 @@ WeeksMakeDayPlans = (days : List Day) (plans : List (List (List ℕ))) → AreWe
 
 -- ---- which days make a week
 
--- A trip of the day before is in time exactly where its reallocation has ended at the departure of each trip of the day,
--- 1,440 minutes being from the start of a day to that of the next; and, where the day has no trip, as it begins.
+-- A trip of the day before is in time exactly where its reallocation has ended at the departure of each trip of the
+-- day, 1,440 minutes being from the start of a day to that of the next; and, where the day has no trip, as it begins.
 pub record IsInTime (before day : Day) (t : ℕ) : Type 0 where
   pub for_each : (b : ℕ) → b < length day.trips → ready_at before t ≤ 1440 + leaves day b
   pub at_start : length day.trips ≡ 0 → ready_at before t ≤ 1440

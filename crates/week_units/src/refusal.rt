@@ -29,8 +29,8 @@ pub enum WeekRefusal {
         /// How many stand there at the start of the day.
         start: u32,
     },
-    /// The reallocation after a trip of the day before ends only when a trip of this day has left; or, where this day has
-    /// no trip, when it has begun. That is asked of each trip, also of one that gives no unit to a yard.
+    /// The reallocation after a trip of the day before ends only when a trip of this day has left; or, where this day
+    /// has no trip, when it has begun. That is asked of each trip, also of one that gives no unit to a yard.
     #[error("a trip before day {day} is late")]
     LateTrip {
         /// The day.

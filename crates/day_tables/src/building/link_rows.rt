@@ -4,7 +4,8 @@ ghost use Rattle.std.specs.Prelude.{◌≡◌, ◌+◌, ◌<◌, ◌≤◌, ◌&
 ghost use Rattle.std.specs.Result.{result_and};
 ghost use Rattle.rail_base.specs.Answers.{Gives, GivesRows};
 ghost use Rattle.day_tables.specs.Build.{is_memory};
-ghost use Rattle.day_tables.specs.LinkRows.{trip_named, is_an_end, lacks_an_end, does_shunt, turn_in, join_in, split_in};
+ghost use Rattle.day_tables.specs.LinkRows.{trip_named, is_an_end, lacks_an_end, does_shunt};
+ghost use Rattle.day_tables.specs.LinkRows.{turn_in, join_in, split_in};
 ghost use Rattle.day_tables.specs.LinkRows.{kind_of, NamesBelow, names_again, do_meet, is_in_time, each_pair};
 ghost use Rattle.day_tables.specs.LinkRows.{accept_trips, accept_link, links_in};
 ghost use Rattle.day_tables.specs.Rowwise.{accept_each};
