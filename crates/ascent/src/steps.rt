@@ -23,9 +23,9 @@ const RAY_LEVEL: i128 = 1000;
 pub enum Step {
     /// Another one may follow.
     More,
-    /// The subgradient is 0: the picks are a solution whose cost is the value.
+    /// The subgradient is 0: the picks are a solution, whose cost is the value where that was taken with the cost.
     Met,
-    /// No picks are near the region, or something is not of the relaxation's size.
+    /// No picks are near the region, or the region, the picks or an index of the multipliers are not the relaxation's.
     Empty,
 }
 
@@ -189,8 +189,9 @@ impl Ascent {
         self.best.value = None;
     }
 
-    /// One evaluation of the bound without cost, and a step from there. Where the best value is positive, the best
-    /// multipliers are a ray: no solution lies in the region. The problem that is bounded stays what it is.
+    /// One evaluation of the bound without cost, and a step from there. Where the best value since `restart_for_ray` is
+    /// positive, the best multipliers are a ray: no solution lies in the region. The problem that is bounded stays what
+    /// it is.
     pub fn step_to_ray<R: Relaxation>(&mut self, bounds: &mut R, region: &Region) -> Step
         ensures same { R.problem bounds.new ≡ R.problem bounds.old }
     {

@@ -10,7 +10,7 @@ pub struct Progress {
     pub node: u32,
     /// How many branchings were made.
     pub branchings: u32,
-    /// How many bounds the improver took, at all nodes together.
+    /// How many bounds of the cost the improver took, at all nodes together.
     pub evaluations: u64,
     /// The greatest bound that is known of the cost of all plans that are better than the best one, where there is one.
     /// It never falls.

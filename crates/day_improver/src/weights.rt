@@ -164,7 +164,7 @@ fn price_on(network: &Network, guide: &PriceGuide, plan: &Plan, trip: TripNo) ->
     edge_price(guide, plan, number)
 }
 
-/// The price of the edge that a plan has for a link, 0 where it has none in the region.
+/// The price of the edge that a plan has for a link, 0 where the guide has none.
 fn edge_price(guide: &PriceGuide, plan: &Plan, number: LinkNo) -> i64 {
     match plan.edges.get(number.place()) {
         Some(edge) => guide.edge(*edge).unwrap_or(0),
