@@ -10,3 +10,4 @@ mod turns;
 
 pub use edge::{Edge, Shunt};
 pub use graphs::Graphs;
+pub use pairs::may_exchange;

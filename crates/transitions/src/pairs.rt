@@ -110,8 +110,9 @@ fn coupled_at(kind: LinkKind) -> End
     }
 }
 
-/// Whether a link is a turn that may uncouple units at its uncoupling end and couple units at its coupling end.
-fn may_exchange(kind: LinkKind) -> bool
+/// Whether a link is a turn with exchange, which may uncouple units at its uncoupling end and couple units at its
+/// coupling end. A join and a split are none.
+pub fn may_exchange(kind: LinkKind) -> bool
     ensures { result ≡ may_exchange kind }
 {
     match kind {
