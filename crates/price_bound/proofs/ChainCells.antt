@@ -308,14 +308,14 @@ module _ (priced : Priced) (chain : List ℕ) where
   rows_from place = drop_rows (comps_of priced) (stages_of priced chain) place ∙ ap (rows_of (comps_of priced)) (drop_stages priced chain place)
 
   -- the row at a place, and those behind it
-  rows_at : (place : ℕ) → place < length chain
+  pub rows_at : (place : ℕ) → place < length chain
       → drop place rows ≡ row_by (comps_of priced) (stage_of priced (get_or chain place 0)) (drop (suc place) rows) ∷ drop (suc place) rows
   rows_at place below =
       rows_from place
       ∙ ap (chain_rows priced) (drop-cons chain place 0 below)
       ∙ ap (λ (rest : List (List (Option Cell))). row_by (comps_of priced) (stage_of priced (get_or chain place 0)) rest ∷ rest) (sym (rows_from (suc place)))
 
-  first_after : (place : ℕ) (d : List (Option Cell)) → suc place < length chain
+  pub first_after : (place : ℕ) (d : List (Option Cell)) → suc place < length chain
       → (rest : List (List (Option Cell))) × (drop (suc place) rows ≡ get_or rows (suc place) [] ∷ rest)
   first_after place d below = (drop (suc (suc place)) rows, drop-cons rows (suc place) [] (omega (arith, below, long)))
     where

@@ -318,14 +318,7 @@ pub bare_none : (n : ℕ) → all_bare (replicate n None) ≡ replicate n None
 bare_none zero = refl
 bare_none (suc n) = ap (λ (row : List (Option Cell)). None ∷ row) (bare_none n)
 
--- a cell is that of the row of a trip from which a link leads on
-pub cell_read : (priced : Priced) (t l : ℕ) (ahead : List (Option Cell)) (comp : ℕ) (cell : Option Cell) → outgoing priced.day t ≡ Some l
-    → comp < comps_of priced → cell ≡ with_priced_cost (priced_cost_of priced t comp) (offered_from priced (Some l) ahead comp)
-    → cell ≡ get_or (row_on priced t ahead) comp None
-cell_read priced t l ahead comp cell leads below is =
-    is ∙ sym (ap (λ (link : Option ℕ). with_priced_cost (priced_cost_of priced t comp) (offered_from priced link ahead comp)) leads)
-    ∙ sym (row_cell priced t ahead comp below)
-
+-- no composition follows where the number is past the last
 pub past_next : (priced : Priced) (t : ℕ) (ahead : List (Option Cell)) (comp : ℕ) → comps_of priced ≤ comp
     → get_or (row_on priced t ahead) comp None ≡ None
 past_next priced t ahead comp past = get_or_past (row_on priced t ahead) comp None (omega (arith, past, row_long priced t ahead))

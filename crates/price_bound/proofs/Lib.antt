@@ -44,6 +44,7 @@ mod ChainSteps
 mod CellValues
 mod ChainCells
 mod EdgeGroups
+mod Onward
 mod LeastOverTrees
 mod CompositionTrees
 mod TurnEdges

@@ -2,12 +2,12 @@
 //! the first trip on.
 
 ghost use Rattle.std.specs.Prelude.{◌≡◌, ◌<◌, ◌≤◌, ◌+◌, ◌*◌, [], length, get_or, map, set, take, All, IfOk, Some, None};
-ghost use Rattle.std.specs.Prelude.{IfSome};
+ghost use Rattle.std.specs.Prelude.{IfSome, false, is_none};
 ghost use Rattle.timetable.specs.Compositions.{compositions_of};
 ghost use Rattle.timetable.specs.Chains.{Leads};
 ghost use Rattle.timetable.specs.Links.{outgoing};
 ghost use Rattle.timetable.specs.Running.{EachFollows};
-ghost use Rattle.price_bound.specs.CellRows.{AreSmallBelow, HaveRoom, HaveRoomFor, LeadsTo, MayRunOn};
+ghost use Rattle.price_bound.specs.CellRows.{AreSmallBelow, HaveRoom, HaveRoomFor, LeadsTo, MayRunOn, offered_from};
 ghost use Rattle.price_bound.specs.CellRows.{all_bare, chain_rows};
 ghost use Rattle.price_bound.specs.PassRooms.{IsPassRoom, IsPlain};
 ghost use Rattle.price_bound.specs.CellRows.{comps_of, last_row_on, put_along, row_on};
@@ -17,7 +17,7 @@ ghost use Rattle.price_bound.specs.Paths.{begin_of, next_of, path_from};
 ghost use Rattle.price_bound.specs.Pricing.{ArePriced, priced_by};
 
 use crate::cells::{Cell, CellRow, with_priced_cost};
-use crate::least_edges::{fill_by_edges, least_with_priced_cost};
+use crate::least_edges::{fill_by_edges, offered};
 use crate::part_prices::PartPrices;
 use crate::pass_room::PassRoom;
 use crate::passes::{Passes, PlainTurn, fill_by_passes};
@@ -126,12 +126,16 @@ impl ChainRows {
         requires room { HaveRoomFor (priced_by pricing.now) self.now }
         requires small { AreSmallBelow (length chain.now) self.now }
         requires place { place < length chain.now }
+        requires rows { take (length chain.now) self.now ≡ map all_bare (chain_rows (priced_by pricing.now) chain.now) }
         ensures { place + 1 < length chain.now → result ≡ next_of (get_or
             (row_on (priced_by pricing.now) (get_or chain.now place 0) (get_or self.now (place + 1) [])) comp None) }
     {
         if place + 1 >= chain.len() {
             return comp;
         }
+        let Some(_) = cell_of(&self.rows[place], comp) else {
+            return CompNo(0);
+        };
         next_at(pricing, chain[place], comp, &self.rows[place + 1])
     }
 
@@ -147,13 +151,24 @@ impl ChainRows {
     }
 }
 
-/// The composition to which the cell of a composition leads, where the row of the next trip is ahead; 0 where there is
-/// no cell.
+/// The cell of a composition; none past the last composition.
+fn cell_of(row: &CellRow, comp: CompNo) -> Option<Cell>
+    ensures { result ≡ get_or row.now comp None }
+{
+    if comp.place() >= row.len() {
+        return None;
+    }
+    row.get(comp)
+}
+
+/// The composition to which the cell of a composition leads, which is there, where the row of the next trip is ahead.
+/// What the composition costs changes nothing of where it leads.
 fn next_at(pricing: &Pricing<'_>, trip: TripNo, comp: CompNo, ahead: &CellRow) -> CompNo
     requires priced { ArePriced pricing.now }
     requires trip { trip < length pricing.now.instance.now.trips }
     requires ahead { length ahead.now ≡ comps_of (priced_by pricing.now) }
     requires small { AreSmallCells most_ahead ahead.now }
+    requires there { is_none (get_or (row_on (priced_by pricing.now) trip ahead.now) comp None) ≡ false }
     ensures { result ≡ next_of (get_or (row_on (priced_by pricing.now) trip ahead.now) comp None) }
 {
     if comp.0 >= pricing.instance.catalogue().len() {
@@ -162,28 +177,24 @@ fn next_at(pricing: &Pricing<'_>, trip: TripNo, comp: CompNo, ahead: &CellRow) -
     let Some(link) = pricing.instance.outgoing(trip) else {
         return CompNo(0);
     };
-    next_of(cell_by_link(pricing, trip, link, comp, ahead))
+    next_of(offered_by_link(pricing, link, comp, ahead))
 }
 
-/// The cell of a composition of a trip from which this link leads on.
-fn cell_by_link(
+/// The first cell of least value that the edges of a link offer to a composition.
+fn offered_by_link(
     pricing: &Pricing<'_>,
-    trip: TripNo,
     link: LinkNo,
     comp: CompNo,
     ahead: &CellRow,
 ) -> Option<Cell>
     requires priced { ArePriced pricing.now }
-    requires trip { trip < length pricing.now.instance.now.trips }
-    requires link { outgoing pricing.now.instance.now trip ≡ Some link }
     requires known { link < length pricing.now.instance.now.links }
     requires comp { comp < comps_of (priced_by pricing.now) }
     requires ahead { length ahead.now ≡ comps_of (priced_by pricing.now) }
     requires small { AreSmallCells most_ahead ahead.now }
-    ensures { result ≡ get_or (row_on (priced_by pricing.now) trip ahead.now) comp None }
+    ensures { result ≡ offered_from (priced_by pricing.now) (Some link) ahead.now comp }
 {
     let edges = pricing.graphs.edges(link);
-    let priced_costs = PricedCosts::new(&*pricing, trip);
     let kind = &pricing.instance.link(link).kind;
     match kind.second() {
         None => {
@@ -193,11 +204,11 @@ fn cell_by_link(
                 couple: kind.coupling_end(),
             };
             let prices = TurnPrices::new(pricing, link, turn);
-            least_with_priced_cost(&prices, edges, &priced_costs, comp, 0, ahead).cell
+            offered(&prices, edges, comp, ahead)
         }
         Some(second) => {
             let prices = PartPrices::new(pricing, link, second);
-            least_with_priced_cost(&prices, edges, &priced_costs, comp, 0, ahead).cell
+            offered(&prices, edges, comp, ahead)
         }
     }
 }

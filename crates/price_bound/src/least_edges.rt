@@ -60,7 +60,7 @@ pub(crate) fn fill_by_edges<P: EdgePrices>(
 
 /// The cell of a composition: the first of least value among those of the edges from it, with its priced cost. The
 /// edges are looked for at a place first.
-pub(crate) fn least_with_priced_cost<P: EdgePrices>(
+fn least_with_priced_cost<P: EdgePrices>(
     prices: &P,
     edges: &[Edge],
     priced_costs: &PricedCosts<'_>,
@@ -94,6 +94,25 @@ pub(crate) fn least_with_priced_cost<P: EdgePrices>(
         cell: with_priced_cost(Some(priced_cost), least.cell),
         end: least.end,
     }
+}
+
+/// The first cell of least value among those of the edges from a composition.
+pub(crate) fn offered<P: EdgePrices>(
+    prices: &P,
+    edges: &[Edge],
+    comp: CompNo,
+    ahead: &CellRow,
+) -> Option<Cell>
+    requires prices { P.are_of_link prices.now }
+    requires graphs { AreGraphs (P.priced prices.now).day (P.priced prices.now).graphs }
+    requires edges { slice_get (P.priced prices.now).graphs (P.link prices.now) ≡ Some edges.now }
+    requires comp { comp < comps_of (P.priced prices.now) }
+    requires ahead { length ahead.now ≡ comps_of (P.priced prices.now) }
+    requires small { AreSmallCells most_ahead ahead.now }
+    ensures { result ≡ offered_from (P.priced prices.now) (Some (P.link prices.now)) ahead.now comp }
+{
+    let begin = first_from(edges, comp, 0);
+    least_from(prices, edges, comp, begin, ahead).cell
 }
 
 /// The first cell of least value among those of the edges from a composition, which begin at a place.
