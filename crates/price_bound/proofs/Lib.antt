@@ -66,3 +66,4 @@ mod FewGiven
 mod FewCosts
 pub mod SmallValues
 mod MissedParts
+mod PlainTurns

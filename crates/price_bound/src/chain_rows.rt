@@ -29,8 +29,8 @@ use rail_base::limits::{MAX_LINKS, MAX_TRIPS};
 use rail_base::{CompNo, LinkNo, NoMemory, TripNo};
 use std::alloc::Global;
 use std::marker::Model;
-use timetable::{Instance, Link, LinkKind, Picks};
-use transitions::Edge;
+use timetable::{Instance, Link, Picks};
+use transitions::{Edge, may_exchange};
 
 /// A region has few compositions for a trip where so many times as many are fewer than there are.
 const FEW: u64 = 8;
@@ -378,31 +378,21 @@ fn is_narrow(pricing: &Pricing<'_>, trip: TripNo) -> bool
 }
 
 /// The turn of a link, if it is one without exchange.
+#[tactic(auto, using(crate::proofs::PlainTurns::plain_turn))]
 fn plain_turn(link: &Link) -> Option<PlainTurn>
     ensures { IfSome result (IsPlain link.now) }
 {
-    match link.kind {
-        LinkKind::Turn {
-            arriving,
-            departing,
-            uncouple,
-            couple,
-            exchange,
-        } => {
-            if exchange {
-                return None;
-            }
-            Some(PlainTurn {
-                arriving,
-                departing,
-                reverse: link.reverse,
-                uncouple,
-                couple,
-            })
-        }
-        LinkKind::Join { .. } => None,
-        LinkKind::Split { .. } => None,
+    let kind = link.kind;
+    if kind.second().is_some() || may_exchange(kind) {
+        return None;
     }
+    Some(PlainTurn {
+        arriving: kind.leads_from(),
+        departing: kind.leads_to(),
+        reverse: link.reverse,
+        uncouple: kind.uncoupling_end(),
+        couple: kind.coupling_end(),
+    })
 }
 
 /// Makes the row of a trip from which this link leads on, by the prices of its edges.
