@@ -2,12 +2,14 @@
 
 ghost use Rattle.std.specs.Prelude.{◌≡◌, ◌≤◌, IsTrue, IfOk, true, length};
 ghost use Rattle.rail_base.specs.Names.{is_name};
+ghost use Rattle.compositions.specs.Composition.{are_types};
 ghost use Rattle.compositions.specs.UnitTypes.{is_within_limits};
 
 use compositions::{Catalogue, CatalogueRefusal, Composition, UnitType, UnitTypes};
 use rail_base::limits::MAX_METRES;
 use rail_base::{CompNo, Name, NoMemory, TypeNo};
 use std::alloc::{AllocError, Global};
+use std::process::Abort;
 use std::test::Fail;
 
 /// A type of so many metres in the family `regional`.
@@ -80,6 +82,19 @@ fn list_operations(rt: HostRuntime) {
     assert!(rt; is_joined(&pair));
 }
 
+/// Asserts the measures of a unit of type 0 and one of type 1.
+fn is_measured(rt: &impl Abort, pair: &Composition, types: &UnitTypes)
+    requires { IsTrue (are_types types.now pair.now) }
+{
+    assert!(rt; pair.metres(types) == 140);
+    assert!(rt; pair.seats(types) == 400);
+    assert!(rt; pair.first_seats(types) == 40);
+    assert!(rt; pair.carriages(types) == 6);
+    assert!(rt; pair.one_family(types));
+    assert!(rt; pair.fits(types, 140));
+    assert!(rt; !pair.fits(types, 139));
+}
+
 #[test]
 fn measures(rt: HostRuntime) {
     let Ok(types) = two_types(rt.alloc()) else {
@@ -88,13 +103,7 @@ fn measures(rt: HostRuntime) {
     let Some(pair) = Composition::of(&[TypeNo(0), TypeNo(1)]) else {
         panic!(rt; "a composition of two units");
     };
-    assert!(rt; pair.metres(&types) == 140);
-    assert!(rt; pair.seats(&types) == 400);
-    assert!(rt; pair.first_seats(&types) == 40);
-    assert!(rt; pair.carriages(&types) == 6);
-    assert!(rt; pair.one_family(&types));
-    assert!(rt; pair.fits(&types, 140));
-    assert!(rt; !pair.fits(&types, 139));
+    is_measured(&rt, &pair, &types);
 }
 
 /// What is told of a catalogue: the types of each composition, and the number by which it is found.
@@ -110,10 +119,15 @@ fn told_of(alloc: Global, catalogue: &Catalogue) -> Result<String, AllocError> {
     Ok(text)
 }
 
-/// What is told of the catalogue of two types over a platform of 140 metres.
-fn told_of_two(alloc: Global) -> Result<String, Fail> {
+/// The catalogue of two types over a platform of 140 metres.
+fn catalogue_of_two(alloc: Global) -> Result<Catalogue, Fail> {
     let types = two_types(alloc)?;
-    let catalogue = Catalogue::build(alloc, &types, 140)?;
+    Ok(Catalogue::build(alloc, &types, 140)?)
+}
+
+/// What is told of that catalogue.
+fn told_of_two(alloc: Global) -> Result<String, Fail> {
+    let catalogue = catalogue_of_two(alloc)?;
     Ok(told_of(alloc, &catalogue)?)
 }
 
@@ -126,14 +140,18 @@ fn catalogue_in_order(rt: HostRuntime) -> Result<(), Fail> {
     Ok(())
 }
 
-/// Whether the catalogue of two types over a platform of 140 metres has two units of type 0, which are too long.
-fn has_too_long(alloc: Global) -> Result<bool, Fail> {
-    let types = two_types(alloc)?;
-    let catalogue = Catalogue::build(alloc, &types, 140)?;
+/// Whether a catalogue has two units of type 0. Where there is no such composition, the test fails.
+fn has_two(catalogue: &Catalogue) -> Result<bool, Fail> {
     match Composition::of(&[TypeNo(0), TypeNo(0)]) {
         Some(two) => Ok(catalogue.find(&two).is_some()),
         None => Err(Fail::new("a composition of two units")),
     }
+}
+
+/// Whether the catalogue of two types over a platform of 140 metres has two units of type 0, which are too long.
+fn has_too_long(alloc: Global) -> Result<bool, Fail> {
+    let catalogue = catalogue_of_two(alloc)?;
+    has_two(&catalogue)
 }
 
 #[test]

@@ -237,13 +237,23 @@ fn keeps(sink: &mut MemorySink, pieces: &[&[u8]], last: &[u8], wanted: &[u8]) ->
     write_all(sink, last) == Err(Failed) && sink.written() == wanted
 }
 
+/// Whether a sink whose write of number 3 fails, and which takes one byte at each, keeps the bytes before it.
+fn keeps_before_a_failed_write(alloc: Global) -> Result<bool, Fail> {
+    let failing = vec![in alloc; 3]?;
+    let mut sink = MemorySink::new(alloc, 100, 1, failing)?;
+    Ok(keeps(&mut sink, &[], b"runs 60\n", b"run"))
+}
+
+/// Whether a sink with room for six bytes keeps the first six.
+fn keeps_what_it_has_room_for(alloc: Global) -> Result<bool, Fail> {
+    let mut sink = MemorySink::new(alloc, 6, 4, Vec::new(alloc))?;
+    Ok(keeps(&mut sink, &[b"runs "], b"60\n", b"runs 6"))
+}
+
 #[test]
 fn keeps_what_was_written_before_the_failure(rt: HostRuntime) -> Result<(), Fail> {
-    let alloc = rt.alloc();
-    let mut sink = MemorySink::new(alloc, 100, 1, vec![in alloc; 3]?)?;
-    assert!(rt; keeps(&mut sink, &[], b"runs 60\n", b"run"));
-    let mut sink = MemorySink::new(alloc, 6, 4, Vec::new(alloc))?;
-    assert!(rt; keeps(&mut sink, &[b"runs "], b"60\n", b"runs 6"));
+    assert!(rt; keeps_before_a_failed_write(rt.alloc())?);
+    assert!(rt; keeps_what_it_has_room_for(rt.alloc())?);
     Ok(())
 }
 
@@ -252,12 +262,17 @@ fn takes(sink: &mut SureSink, piece: &[u8], written: Option<&[u8]>) -> bool {
     sink.write(piece) == Ok(piece.len()) && sink.written() == written
 }
 
+/// Asserts that a sure sink with room for eight bytes takes every piece.
+fn are_taken(rt: &impl Abort, sink: &mut SureSink) {
+    assert!(rt; takes(sink, b"runs ", Some(b"runs ")));
+    assert!(rt; takes(sink, b"60\n", Some(b"runs 60\n")));
+    assert!(rt; takes(sink, b"stops", None));
+}
+
 #[test]
 fn a_sure_sink_takes_every_piece(rt: HostRuntime) -> Result<(), Fail> {
     let mut sink = SureSink::new(rt.alloc(), 8)?;
-    assert!(rt; takes(&mut sink, b"runs ", Some(b"runs ")));
-    assert!(rt; takes(&mut sink, b"60\n", Some(b"runs 60\n")));
-    assert!(rt; takes(&mut sink, b"stops", None));
+    are_taken(&rt, &mut sink);
     Ok(())
 }
 
@@ -364,11 +379,16 @@ fn disk_told(rt: &HostRuntime, path: Path<'_>, steps: &[Step]) -> Result<String,
     Ok(text)
 }
 
+/// What the reads of a row give, with a file that is the row's alone.
+fn row_told(rt: &HostRuntime, row: &OnDisk) -> Result<String, Fail> {
+    let path = path_on_disk(rt, row.ending)?;
+    disk_told(rt, path.as_path(), row.steps)
+}
+
 #[test]
 fn reads_the_disk(rt: HostRuntime) -> Result<(), Fail> {
     for row in ON_DISK {
-        let path = path_on_disk(&rt, row.ending)?;
-        let text = disk_told(&rt, path.as_path(), row.steps)?;
+        let text = row_told(&rt, row)?;
         assert!(rt; text.as_str() == row.told, "{text}");
     }
     Ok(())

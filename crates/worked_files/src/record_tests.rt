@@ -50,16 +50,67 @@ fn has_text_and_none(found: &ByteRecord) -> bool {
     field_text(found, 0) == Some("\u{e5}") && field_text(found, 1).is_none()
 }
 
+/// Whether the next record is that header.
+fn header_is_next(records: &mut ByteRecordsIntoIter<&[u8]>) -> Result<bool, Fail>
+    requires { ReadsOn records.old }
+    ensures { IfOk result (λ _is_so. ReadsOn records.new) }
+{
+    let found = next_of(records)?;
+    Ok(is_header_of_times(&found))
+}
+
+/// Whether the next record has that number and that time.
+fn number_and_time_are_next(records: &mut ByteRecordsIntoIter<&[u8]>) -> Result<bool, Fail>
+    requires { ReadsOn records.old }
+    ensures { IfOk result (λ _is_so. ReadsOn records.new) }
+{
+    let found = next_of(records)?;
+    Ok(has_number_and_time(&found))
+}
+
+/// Whether the next record has those three fields.
+fn three_fields_are_next(records: &mut ByteRecordsIntoIter<&[u8]>) -> Result<bool, Fail>
+    requires { ReadsOn records.old }
+    ensures { IfOk result (λ _is_so. ReadsOn records.new) }
+{
+    let found = next_of(records)?;
+    Ok(has_three_fields(&found))
+}
+
+/// Whether the next record has those two texts.
+fn text_and_none_are_next(records: &mut ByteRecordsIntoIter<&[u8]>) -> Result<bool, Fail>
+    requires { ReadsOn records.old }
+    ensures { IfOk result (λ _is_so. ReadsOn records.new) }
+{
+    let found = next_of(records)?;
+    Ok(has_text_and_none(&found))
+}
+
+/// Whether no record is left.
+fn none_is_next(records: &mut ByteRecordsIntoIter<&[u8]>) -> Result<bool, Fail>
+    requires { ReadsOn records.old }
+{
+    let next = next_record(records)?;
+    Ok(next.is_none())
+}
+
+/// Asserts what the records of the table are, one after the other.
+fn records_are_read(rt: &impl Abort, records: &mut ByteRecordsIntoIter<&[u8]>) -> Result<(), Fail>
+    requires { ReadsOn records.old }
+{
+    assert!(rt; header_is_next(records)?);
+    assert!(rt; number_and_time_are_next(records)?);
+    assert!(rt; three_fields_are_next(records)?);
+    assert!(rt; text_and_none_are_next(records)?);
+    assert!(rt; none_is_next(records)?);
+    Ok(())
+}
+
 #[test]
 fn one_more_table_is_read_record_by_record(rt: HostRuntime) -> Result<(), Fail> {
     let table = b"\xEF\xBB\xBFunit,time\n07,7:05\n\n\"a\",24:60,x\n\xC3\xA5,\xE5\n";
     let mut records = records_in(rt.alloc(), table);
-    assert!(rt; is_header_of_times(&next_of(&mut records)?));
-    assert!(rt; has_number_and_time(&next_of(&mut records)?));
-    assert!(rt; has_three_fields(&next_of(&mut records)?));
-    assert!(rt; has_text_and_none(&next_of(&mut records)?));
-    assert!(rt; next_record(&mut records)?.is_none());
-    Ok(())
+    records_are_read(&rt, &mut records)
 }
 
 /// Whether a text can be a name.

@@ -2,8 +2,8 @@
 
 ghost use Rattle.std.specs.Prelude.{◌≤◌, length};
 
-use rail_base::Name;
 use rail_base::limits::MAX_TABLE_BYTES;
+use rail_base::{Name, NoMemory};
 use rail_csv::{
     LinkRow, PlanRow, StationRow, StockRow, Table, TableRefusal, TripRow, TypeRow, WeightsRow,
     links, plan, stations, stock, trips, types, weights,
@@ -432,11 +432,17 @@ fn files_are_read_or_refused(rt: HostRuntime) -> Result<(), Fail> {
     Ok(())
 }
 
+/// Whether the copy of a name is the same.
+fn is_copied(alloc: Global, name: &Name) -> Result<bool, NoMemory> {
+    let copy = Name::copy(alloc, name.as_str())?;
+    Ok(copy.is(name))
+}
+
 #[test]
 fn a_copied_name_is_the_same(rt: HostRuntime) -> Result<(), Fail> {
-    for row in &stock(rt.alloc(), b"station,type,start,end\nX,A,0,2000\n")? {
-        let copy = Name::copy(rt.alloc(), row.station.as_str())?;
-        assert!(rt; copy.is(&row.station));
+    let rows = stock(rt.alloc(), b"station,type,start,end\nX,A,0,2000\n")?;
+    for row in &rows {
+        assert!(rt; is_copied(rt.alloc(), &row.station)?);
     }
     Ok(())
 }

@@ -1,7 +1,7 @@
 //! The folder on disk and the standard output, over a system in memory that counts its calls and fails at one of them.
 
 use crate::file_tests::write_piece;
-use rail_io::{DiskFolder, Sink, StdoutSink, write_all};
+use rail_io::{DiskFolder, Folder, Sink, StdoutSink, write_all};
 use std::alloc::{AllocError, Allocator, Global};
 use std::cell::Cell;
 use std::fmt::Display;
@@ -214,6 +214,19 @@ const ON_FAILING_DISK: &[OnFailingDisk] = &[
     },
 ];
 
+/// What the reads of at most four bytes of one path from these places on give.
+fn pieces_told<F: Folder>(
+    alloc: Global,
+    folder: &mut F,
+    places: &[u64],
+) -> Result<String, AllocError> {
+    let mut text = String::new(alloc);
+    for place in places {
+        write_piece(&mut text, folder, "trips.csv", *place)?;
+    }
+    Ok(text)
+}
+
 /// What the reads of a row give, where the call that fails does so with this error.
 fn failing_disk_told(
     alloc: Global,
@@ -228,12 +241,7 @@ fn failing_disk_told(
         error,
         calls,
     };
-    let mut folder = DiskFolder::new(&disk);
-    let mut text = String::new(alloc);
-    for place in row.places {
-        write_piece(&mut text, &mut folder, "trips.csv", *place)?;
-    }
-    Ok(text)
+    pieces_told(alloc, &mut DiskFolder::new(&disk), row.places)
 }
 
 /// Asserts what the reads of a row give, and how many calls there were.
@@ -325,30 +333,46 @@ impl Print for FewBytes<'_> {
     }
 }
 
-#[test]
-fn a_short_write_is_no_whole_one(rt: HostRuntime) -> Result<(), Fail> {
-    let output = FewBytes::new(b"runs 60\n", 1, None);
-    let mut sink = StdoutSink::new(&output);
+/// Asserts that a standard output, over which a sink is, takes `runs 60` byte by byte, and no more than that.
+fn takes_byte_by_byte(rt: &impl Abort, output: &FewBytes<'_>, sink: &mut impl Sink) {
     assert!(rt; output.calls.get() == 0);
     assert!(rt; sink.write(b"runs 60\n") == Ok(1));
-    assert!(rt; is_written(&mut sink, b"uns 60\n"));
+    assert!(rt; is_written(sink, b"uns 60\n"));
     assert!(rt; output.taken.get() == 8);
-    assert!(rt; !is_written(&mut sink, b"runs 60\n"));
-    let output = FewBytes::new(b"runs 60\n", 3, None);
-    assert!(rt; is_written(&mut StdoutSink::new(&output), b"runs 60\n"));
+    assert!(rt; !is_written(sink, b"runs 60\n"));
+}
+
+/// Asserts that a standard output takes `runs 60` whole.
+fn takes_whole(rt: &impl Abort, output: &FewBytes<'_>) {
+    assert!(rt; is_written_to(output));
     assert!(rt; output.taken.get() == 8);
-    Ok(())
+}
+
+/// Asserts that a standard output, whose second call fails, takes three bytes and is not called again.
+fn stops_at_the_failed_call(rt: &impl Abort, output: &FewBytes<'_>) {
+    assert!(rt; !is_written_to(output));
+    assert!(rt; output.calls.get() == 2);
+    assert!(rt; output.taken.get() == 3);
 }
 
 #[test]
-fn a_failed_write_is_not_made_again(rt: HostRuntime) -> Result<(), Fail> {
+fn a_short_write_is_no_whole_one(rt: HostRuntime) {
+    let output = FewBytes::new(b"runs 60\n", 1, None);
+    takes_byte_by_byte(&rt, &output, &mut StdoutSink::new(&output));
+    takes_whole(&rt, &FewBytes::new(b"runs 60\n", 3, None));
+}
+
+#[test]
+fn a_failed_write_is_not_made_again(rt: HostRuntime) {
     for error in 1..ERRORS {
         let output = FewBytes::new(b"runs 60\n", 3, Some((1, error)));
-        assert!(rt; !is_written(&mut StdoutSink::new(&output), b"runs 60\n"));
-        assert!(rt; output.calls.get() == 2);
-        assert!(rt; output.taken.get() == 3);
+        stops_at_the_failed_call(&rt, &output);
     }
-    Ok(())
+}
+
+/// Whether `runs 60` is written whole to a standard output.
+fn is_written_to(output: &FewBytes<'_>) -> bool {
+    is_written(&mut StdoutSink::new(output), b"runs 60\n")
 }
 
 /// Whether bytes are written whole.
