@@ -8,6 +8,7 @@ use day_simulator::{Day, DayEvent, Ran, SimulateRefusal, StepFault, UnitLocation
 use rail_base::{TripNo, UnitNo};
 use sample_days::{RING, TURN, TWO_TYPES, Texts, day_of, plan_of};
 use std::alloc::{AllocError, Global};
+use std::process::Abort;
 use std::test::Fail;
 use timetable::{Instance, NamedPlan};
 
@@ -358,14 +359,20 @@ fn events_come_in_turn(rt: HostRuntime) -> Result<(), Fail> {
     Ok(())
 }
 
+/// Asserts how these days end in the order of a number, which these steps are.
+fn all_end_alike(rt: &impl Abort, alloc: Global, number: u32, steps: &[Step]) -> Result<(), Fail> {
+    for (texts, plan, wanted) in ALIKE {
+        let text = told(alloc, texts, *plan, steps)?;
+        assert!(rt; text.as_str() == *wanted, "order {number}: {text}");
+    }
+    Ok(())
+}
+
 #[test]
 fn events_of_one_minute_come_in_any_order(rt: HostRuntime) -> Result<(), Fail> {
     for number in 0..16 {
         let steps = order_of(rt.alloc(), number)?;
-        for (texts, plan, wanted) in ALIKE {
-            let text = told(rt.alloc(), texts, *plan, steps.as_slice())?;
-            assert!(rt; text.as_str() == *wanted, "order {number}: {text}");
-        }
+        all_end_alike(&rt, rt.alloc(), number, steps.as_slice())?;
     }
     Ok(())
 }

@@ -210,12 +210,18 @@ fn plan_told(alloc: Global, day: &Instance, bytes: &[u8]) -> Result<String, Fail
 fn units_told(alloc: Global, plan: &NamedPlan) -> Result<String, AllocError> {
     let mut text = String::new(alloc);
     for trip in 0..plan.trips() {
-        for unit in plan.units(TripNo(trip)) {
-            write!(&mut text, "{} ", unit.0)?;
-        }
+        write_units(&mut text, plan.units(TripNo(trip)))?;
         text.push_str("\n")?;
     }
     Ok(text)
+}
+
+/// Writes units.
+fn write_units(text: &mut String, units: &[UnitNo]) -> Result<(), AllocError> {
+    for unit in units {
+        write!(text, "{} ", unit.0)?;
+    }
+    Ok(())
 }
 
 /// Asserts what the files of a plan make with a day.
@@ -351,19 +357,47 @@ fn types(alloc: Global, numbers: &[u32]) -> Result<Vec<TypeNo>, AllocError> {
     Ok(types)
 }
 
-/// Asserts how many units the only link of a day keeps.
-fn are_kept(rt: &impl Abort, alloc: Global, texts: &Texts<'_>, rows: &[Kept]) -> Result<(), Fail> {
-    let day = day_of(alloc, texts)?;
+/// Asserts how many units the only link of a day keeps of one list where another departs.
+fn is_kept(
+    rt: &impl Abort,
+    day: &Instance,
+    arriving: &[TypeNo],
+    departing: &[TypeNo],
+    wanted: Option<u32>,
+) {
     assert!(rt; day.links() == 1);
+    assert!(rt;
+        arriving.len() <= MAX_COMPOSITION_UNITS && departing.len() <= MAX_COMPOSITION_UNITS
+    );
+    let kept = day.kept(LinkNo(0), arriving, departing);
+    assert!(rt; kept == wanted, "{kept:?}");
+}
+
+/// Asserts the same of the lists of a row.
+fn row_is_kept(rt: &impl Abort, alloc: Global, day: &Instance, row: &Kept) -> Result<(), Fail> {
+    let arriving = types(alloc, row.arriving)?;
+    let departing = types(alloc, row.departing)?;
+    is_kept(rt, day, arriving.as_slice(), departing.as_slice(), row.kept);
+    Ok(())
+}
+
+/// Asserts the same of the lists of some rows.
+fn rows_are_kept(
+    rt: &impl Abort,
+    alloc: Global,
+    day: &Instance,
+    rows: &[Kept],
+) -> Result<(), Fail> {
     for row in rows {
-        let (arriving, departing) = (types(alloc, row.arriving)?, types(alloc, row.departing)?);
-        assert!(rt;
-            arriving.len() <= MAX_COMPOSITION_UNITS && departing.len() <= MAX_COMPOSITION_UNITS
-        );
-        let kept = day.kept(LinkNo(0), arriving.as_slice(), departing.as_slice());
-        assert!(rt; kept == row.kept, "{kept:?}");
+        row_is_kept(rt, alloc, day, row)?;
     }
     Ok(())
+}
+
+/// Asserts the same of the only link of the day of these tables.
+fn are_kept(rt: &impl Abort, alloc: Global, texts: &Texts<'_>, rows: &[Kept]) -> Result<(), Fail> {
+    let day = day_of(alloc, texts)?;
+    rows_are_kept(rt, alloc, &day, rows)
 }
 
 #[test]
@@ -390,20 +424,25 @@ fn staying_told(
     if day.links() > 0 {
         let link = day.link(LinkNo(0));
         let kept = kept_by::<UnitNo>(link, day, plan, TripNo(from), TripNo(to));
-        for unit in kept.as_slice() {
-            write!(&mut text, "{} ", unit.0)?;
-        }
+        write_units(&mut text, kept.as_slice())?;
     }
     Ok(text)
+}
+
+/// Asserts which units stay in the trains of a plan of a day.
+fn units_stay(rt: &impl Abort, alloc: Global, day: &Instance, plan: &NamedPlan) -> Result<(), Fail>
+    requires { IsPlan day.now plan.now }
+{
+    for (from, to, wanted) in STAYING {
+        let text = staying_told(alloc, day, plan, *from, *to)?;
+        assert!(rt; text.as_str() == *wanted, "{text}");
+    }
+    Ok(())
 }
 
 #[test]
 fn units_stay_in_trains(rt: HostRuntime) -> Result<(), Fail> {
     let day = day_of(rt.alloc(), &ONE_LEFT)?;
     let plan = plan_of(rt.alloc(), &day, b"trip,units\nT1,0 1\nT2,1\n")?;
-    for (from, to, wanted) in STAYING {
-        let text = staying_told(rt.alloc(), &day, &plan, *from, *to)?;
-        assert!(rt; text.as_str() == *wanted, "{text}");
-    }
-    Ok(())
+    units_stay(&rt, rt.alloc(), &day, &plan)
 }
