@@ -281,18 +281,23 @@ const STATIONS: &[u8] = b"station,platform,reallocation\nX,200,10\nY,200,10\nZ,2
 /// No drawn day has links.
 const NO_LINKS: &[u8] = b"kind,arriving,arriving2,departing,departing2,reverse,uncouple,couple\n";
 
+/// The day of these tables of stock and trips.
+fn day_of_tables<'a>(alloc: Global, stock: &'a [u8], trips: &'a [u8]) -> Result<Instance, Fail> {
+    let texts = Texts {
+        types: TURN.types,
+        stations: STATIONS,
+        stock,
+        trips,
+        links: NO_LINKS,
+    };
+    day_of(alloc, &texts)
+}
+
 /// The day of the tables.
 fn instance_of(alloc: Global, day: &DrawnDay) -> Result<Instance, Fail> {
     let stock = stock_text(alloc, day)?;
     let trips = trips_text(alloc, day)?;
-    let texts = Texts {
-        types: TURN.types,
-        stations: STATIONS,
-        stock: stock.as_bytes(),
-        trips: trips.as_bytes(),
-        links: NO_LINKS,
-    };
-    day_of(alloc, &texts)
+    day_of_tables(alloc, stock.as_bytes(), trips.as_bytes())
 }
 
 /// The naming that a plan is, or nothing where a trip hasn't one unit.

@@ -1,6 +1,6 @@
 //! Wishes by hand: what is read of them, legs, and what cuts are worth.
 
-ghost use Rattle.std.specs.Prelude.{◌≡◌, length, IfOk};
+ghost use Rattle.std.specs.Prelude.{◌≡◌, ◌<◌, length, IfOk};
 ghost use Rattle.timetable.specs.Running.{IsPlan};
 ghost use Rattle.urgent_units.specs.Cuts.{HasMoments};
 ghost use Rattle.urgent_units.specs.Legs.{legs_of};
@@ -9,7 +9,7 @@ ghost use Rattle.urgent_units.specs.Wishes.{IsWish};
 use day_simulator::simulate;
 use rail_base::{StationNo, TypeNo};
 use sample_days::{TURN, Texts, day_of, plan_of, table};
-use std::alloc::Global;
+use std::alloc::{AllocError, Global};
 use std::process::Abort;
 use std::test::Fail;
 use timetable::{Instance, NamedPlan};
@@ -71,13 +71,18 @@ fn is_read(alloc: Global, day: &Instance, text: &[u8], wanted: &str) -> Result<b
     Ok(told.as_str() == wanted)
 }
 
+/// Asserts what is read of each table with a day.
+fn are_read(rt: &impl Abort, alloc: Global, day: &Instance) -> Result<(), Fail> {
+    for (text, wanted) in READ {
+        assert!(rt; is_read(alloc, day, *text, *wanted)?, "{wanted}");
+    }
+    Ok(())
+}
+
 #[test]
 fn wishes_are_read(rt: HostRuntime) -> Result<(), Fail> {
     let day = day_of(rt.alloc(), &ONE_TRIP)?;
-    for (text, wanted) in READ {
-        assert!(rt; is_read(rt.alloc(), &day, *text, *wanted)?, "{wanted}");
-    }
-    Ok(())
+    are_read(&rt, rt.alloc(), &day)
 }
 
 /// The legs of a type's units in a plan of the day.
@@ -91,16 +96,23 @@ fn legs_of(alloc: Global, day: &Instance, plan: &NamedPlan, unit_type: TypeNo) -
     }
 }
 
+/// Writes how many units are held at a station, moment by moment.
+fn write_held(told: &mut String, legs: &Legs, number: u32) -> Result<(), AllocError>
+    requires { number < legs.now.stations }
+{
+    let station = StationNo(number);
+    write!(told, "station {number} moments")?;
+    for moment in 0..legs.moments(station) {
+        write!(told, " {}", legs.held(station, moment))?;
+    }
+    told.push_str("\n")
+}
+
 /// How many units are held, station by station and moment by moment.
 fn held(alloc: Global, legs: &Legs) -> Result<String, Fail> {
     let mut told = String::new(alloc);
     for number in 0..legs.stations() {
-        let station = StationNo(number);
-        write!(told, "station {number} moments")?;
-        for moment in 0..legs.moments(station) {
-            write!(told, " {}", legs.held(station, moment))?;
-        }
-        write!(told, "\n")?;
+        write_held(&mut told, legs, number)?;
     }
     Ok(told)
 }
