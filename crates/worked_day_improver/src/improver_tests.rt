@@ -2,7 +2,6 @@
 //! takes the same steps.
 
 ghost use Rattle.transitions.specs.Edges.{AreGraphs};
-ghost use Rattle.trial_day.specs.Trial.{IsTrialSize};
 
 use branch_tree::{BoundAnswer, Multipliers, Region, Relaxation, Settled, Slacks, Weight};
 use day_improver::DayImprover;
@@ -184,6 +183,18 @@ fn add_below<R: Relaxation, I: Improver>(
     add_told(alloc, bounds, blank, again, &to, text)
 }
 
+/// Whether an improver, once asked at the root of a day in an attempt, may be asked again. What it proposes takes the
+/// place of what was proposed before.
+fn asked<I: Improver>(
+    blank: &Blank,
+    improver: &mut I,
+    attempt: u32,
+    to: &mut Improvement,
+) -> Result<bool, NoMemory> {
+    to.clear();
+    improver.improve(&blank.root(attempt), to)
+}
+
 /// Adds to a text what an improver proposes at the root of a day, in so many attempts, and then at a node with the same
 /// region.
 fn add_proposed<R: Relaxation, I: Improver>(
@@ -196,8 +207,7 @@ fn add_proposed<R: Relaxation, I: Improver>(
 ) -> Result<(), Fail> {
     let mut to = Improvement::new(alloc);
     for attempt in 0..attempts {
-        to.clear();
-        let again = improver.improve(&blank.root(attempt), &mut to)?;
+        let again = asked(blank, improver, attempt, &mut to)?;
         add_told(alloc, bounds, blank, again, &to, text)?;
         text.push_str("; ")?;
     }
@@ -235,43 +245,57 @@ fn proposed(
     Ok(text)
 }
 
-/// What is proposed for a trial day of seed 7.
-fn proposed_for_trial(alloc: Global, trips: u32, evaluations: u32) -> Result<String, Fail>
-    requires { IsTrialSize trips }
-{
-    let day = trial_instance(alloc, 7, trips)?;
+/// A trial day of seed 7.
+#[derive(Clone, Copy)]
+enum Trial {
+    /// That of 10 trips.
+    Ten,
+    /// That of 20 trips.
+    Twenty,
+}
+
+/// The day itself.
+fn day_of_trial(alloc: Global, trial: Trial) -> Result<Instance, NoMemory> {
+    match trial {
+        Trial::Ten => trial_instance(alloc, 7, 10),
+        Trial::Twenty => trial_instance(alloc, 7, 20),
+    }
+}
+
+/// What is proposed for a trial day.
+fn proposed_for_trial(alloc: Global, trial: Trial, evaluations: u32) -> Result<String, Fail> {
+    let day = day_of_trial(alloc, trial)?;
     proposed(alloc, &day, evaluations, 1)
 }
 
-#[test]
-fn a_trial_day_whose_plan_costs_its_bound(rt: HostRuntime) -> Result<(), Fail> {
-    let told = proposed_for_trial(rt.alloc(), 10, 24)?;
-    assert!(rt;
-        told.as_str()
-            == "again false, bound 2440, plan 2440, cut true; again false, bound 2440, plan 2440, cut true",
-        "{told}"
-    );
-    Ok(())
-}
+/// Trial days, how many evaluations the improver has, and what is proposed.
+const TRIALS: &[(Trial, u32, &str)] = &[
+    // A plan costs the bound.
+    (
+        Trial::Ten,
+        24,
+        "again false, bound 2440, plan 2440, cut true; again false, bound 2440, plan 2440, cut true",
+    ),
+    // There is a gap at the root.
+    (
+        Trial::Twenty,
+        40,
+        "again false, bound 4878, plan 4880, cut true; again false, bound 4880, plan 4880, cut true",
+    ),
+    // Nothing is proposed without evaluations.
+    (
+        Trial::Ten,
+        0,
+        "again false, cut false; again false, cut false",
+    ),
+];
 
 #[test]
-fn a_trial_day_with_a_gap(rt: HostRuntime) -> Result<(), Fail> {
-    let told = proposed_for_trial(rt.alloc(), 20, 40)?;
-    assert!(rt;
-        told.as_str()
-            == "again false, bound 4878, plan 4880, cut true; again false, bound 4880, plan 4880, cut true",
-        "{told}"
-    );
-    Ok(())
-}
-
-#[test]
-fn nothing_without_evaluations(rt: HostRuntime) -> Result<(), Fail> {
-    let told = proposed_for_trial(rt.alloc(), 10, 0)?;
-    assert!(rt;
-        told.as_str() == "again false, cut false; again false, cut false",
-        "{told}"
-    );
+fn trial_days_have_bounds_and_plans(rt: HostRuntime) -> Result<(), Fail> {
+    for (trial, evaluations, wanted) in TRIALS {
+        let told = proposed_for_trial(rt.alloc(), *trial, *evaluations)?;
+        assert!(rt; told.as_str() == *wanted, "{told}");
+    }
     Ok(())
 }
 
@@ -287,33 +311,25 @@ const ONE_TOO_MANY: Texts<'static> = Texts {
     ..TURN
 };
 
-#[test]
-fn a_day_that_cannot_balance_has_a_ray(rt: HostRuntime) -> Result<(), Fail> {
-    let told = proposed_for_texts(rt.alloc(), &ONE_TOO_MANY)?;
-    assert!(rt;
-        told.as_str()
-            .starts_with("again true, bound 1, cut false; "),
-        "{told}"
-    );
-    Ok(())
-}
-
 /// A day on which both units are wanted at Y at the end, and one has to come back at least.
 const NONE_COMES_BACK: Texts<'static> = Texts {
     stock: b"station,type,start,end\nX,A,2,0\nY,A,0,2\n",
     ..TURN
 };
 
-#[test]
-fn a_day_on_which_no_plan_is_found_is_looked_at_again(rt: HostRuntime) -> Result<(), Fail> {
-    let told = proposed_for_texts(rt.alloc(), &NONE_COMES_BACK)?;
-    assert!(rt; told.as_str().starts_with("again true, "), "{told}");
-    Ok(())
-}
+/// Days, and how what is proposed for them begins: a day that cannot balance has a ray, one on which no plan is found
+/// is looked at again, and one that balances has neither.
+const FIRST_PROPOSED: &[(Texts<'static>, &str)] = &[
+    (ONE_TOO_MANY, "again true, bound 1, cut false; "),
+    (NONE_COMES_BACK, "again true, "),
+    (ONE_LEFT, "again false, "),
+];
 
 #[test]
-fn a_day_that_balances_has_none(rt: HostRuntime) -> Result<(), Fail> {
-    let told = proposed_for_texts(rt.alloc(), &ONE_LEFT)?;
-    assert!(rt; told.as_str().starts_with("again false, "), "{told}");
+fn days_that_cannot_balance_are_looked_at_again(rt: HostRuntime) -> Result<(), Fail> {
+    for (texts, wanted) in FIRST_PROPOSED {
+        let told = proposed_for_texts(rt.alloc(), texts)?;
+        assert!(rt; told.as_str().starts_with(*wanted), "{told}");
+    }
     Ok(())
 }

@@ -77,6 +77,20 @@ fn found_by<R: Relaxation + Drop, I: Improver>(
     solve_with(alloc, &mut bounds, root, allowed, improver, &mut advisors)
 }
 
+/// What is found with the improver of days, for a day with its edges.
+fn found_along(
+    alloc: Global,
+    day: &Instance,
+    graphs: &Graphs,
+    evaluations: u32,
+    branchings: u32,
+) -> Result<String, Fail>
+    requires { AreGraphs day.now graphs.now }
+{
+    let mut improver = DayImprover::new(alloc, day, graphs, evaluations)?;
+    found(alloc, day, graphs, branchings, &mut improver)
+}
+
 /// What is found with the improver of days.
 fn found_improved(
     alloc: Global,
@@ -85,8 +99,7 @@ fn found_improved(
     branchings: u32,
 ) -> Result<String, Fail> {
     let graphs = Graphs::build(alloc, day)?;
-    let mut improver = DayImprover::new(alloc, day, &graphs, evaluations)?;
-    found(alloc, day, &graphs, branchings, &mut improver)
+    found_along(alloc, day, &graphs, evaluations, branchings)
 }
 
 /// What is found without an improver.
