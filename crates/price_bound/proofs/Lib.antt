@@ -53,6 +53,7 @@ mod PassValues
 mod PassLoops
 mod Resting
 mod PassedRows
+mod RowValues
 mod RunsAhead
 mod Finding
 mod ChangedCosts

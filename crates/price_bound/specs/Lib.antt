@@ -45,3 +45,4 @@ pub mod CompositionTrees
 pub mod HeldValues
 pub mod PassRooms
 pub mod PassValues
+pub mod RowValues

@@ -1,13 +1,18 @@
 //! Cells: the least value from a composition of a trip to the end of the trip's chain, and the next step of the first
 //! path that has it.
 
-ghost use Rattle.std.specs.Prelude.{ℕ, ◌≡◌, ◌<◌, ◌+◌, map, length, get_or, set, replicate, IfOk, IfSome, Some};
+ghost use Rattle.std.specs.Prelude.{ℕ, ◌≡◌, ◌<◌, ◌≤◌, ◌+◌, map, length, get_or, set, replicate, IfOk, IfSome, Some};
 ghost use Rattle.std.specs.Prelude.{None, if◌then◌else◌, option_map, ◌+ℤ◌};
+ghost use Rattle.branch_tree.specs.Sets.{is_member};
 ghost use Rattle.price_bound.specs.CellRows.{AreHeld, IsHeld, bare, cell_in, held_cell};
+ghost use Rattle.price_bound.specs.RowValues.{HasCells, HaveNone};
 ghost use Rattle.price_bound.specs.Paths.{entered, least_from, lower_cell, offer_by, with_priced_cost};
 ghost use Rattle.price_bound.specs.CellSizes.{IsSmall, most_edge_price, most_offered, most_step};
 
 use crate::priced_costs::Amount;
+use crate::row_values::{RowValues, put_row};
+use branch_tree::CompositionSet;
+use rail_base::limits::MAX_COMPOSITIONS;
 use rail_base::{CompNo, NoMemory};
 use std::alloc::Global;
 use std::marker::Model;
@@ -96,6 +101,19 @@ impl CellRow {
         }
     }
 
+    /// Makes the cells of the row those of the members of a set.
+    pub(crate) fn fill<V: RowValues>(&mut self, values: &V, set: &CompositionSet)
+        requires are { V.are_of_trip values.now }
+        requires members { (comp : ℕ) → V.member values.now comp ≡ is_member set.now comp }
+        requires none { HaveNone (V.member values.now) (V.cell values.now) }
+        requires few { V.IsFew values.now None }
+        requires most { V.comps values.now ≤ MAX_COMPOSITIONS }
+        requires row { length self.old ≡ V.comps values.now }
+        ensures { HasCells (V.comps values.now) (V.cell values.now) (V.IsFew values.now) self.new }
+    {
+        put_row(values, set.words(), &mut self.values);
+    }
+
     /// Changes the cell of a composition, which is below `len`.
     pub(crate) fn put(&mut self, comp: CompNo, cell: Option<Cell>)
         requires comp { comp < length self.old }
@@ -137,7 +155,7 @@ pub(crate) fn cell_in(value: i64) -> Option<Cell>
 }
 
 /// What stands in a row for a cell.
-fn value_of(cell: Option<Cell>) -> i64
+pub(crate) fn value_of(cell: Option<Cell>) -> i64
     requires { IfSome cell (λ it. IsSmall most_offered it.value) }
     ensures cell { cell_in result ≡ bare cell }
     ensures held { IsHeld result }

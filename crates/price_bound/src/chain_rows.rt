@@ -16,16 +16,17 @@ ghost use Rattle.price_bound.specs.CellSizes.{most_step};
 ghost use Rattle.price_bound.specs.Paths.{begin_of, next_of, path_from};
 ghost use Rattle.price_bound.specs.Pricing.{ArePriced, priced_by};
 
-use crate::cells::{Cell, CellRow, with_priced_cost};
+use crate::cells::{Cell, CellRow};
 use crate::least_edges::{fill_by_edges, offered};
 use crate::part_prices::PartPrices;
 use crate::pass_room::PassRoom;
 use crate::passes::{Passes, PlainTurn, fill_by_passes};
 use crate::priced::Pricing;
 use crate::priced_costs::PricedCosts;
+use crate::row_values::EndValues;
 use crate::turn_prices::{TurnPrices, TurnTrips};
 use branch_tree::sets::WORD_BITS;
-use rail_base::limits::{MAX_LINKS, MAX_TRIPS};
+use rail_base::limits::{MAX_COMPOSITIONS, MAX_LINKS, MAX_TRIPS};
 use rail_base::{CompNo, LinkNo, NoMemory, TripNo};
 use std::alloc::Global;
 use std::marker::Model;
@@ -288,16 +289,12 @@ fn fill_last(pricing: &Pricing<'_>, trip: TripNo, row: &mut CellRow)
     ensures runs { MayRunOn pricing.now.instance.now trip row.new }
     ensures small { AreSmallCells most_step row.new }
 {
+    prove!(pricing.instance.catalogue().len() as usize <= MAX_COMPOSITIONS);
     let priced_costs = PricedCosts::new(&*pricing, trip);
-    for comp in 0..pricing.instance.catalogue().len() {
-        let priced_cost = priced_costs.priced_cost(CompNo(comp));
-        let end = Cell {
-            value: 0,
-            next: CompNo(0),
-        };
-        let cell = with_priced_cost(priced_cost, Some(end));
-        row.put(CompNo(comp), cell);
-    }
+    let values = EndValues {
+        priced_costs: &priced_costs,
+    };
+    row.fill(&values, priced_costs.set);
 }
 
 /// Makes the row of a trip before that of the next trip of its chain.

@@ -20,6 +20,7 @@ mod passes;
 mod price_tables;
 mod priced;
 mod priced_costs;
+mod row_values;
 mod settling;
 mod sizes;
 mod slacks;

@@ -5,7 +5,8 @@
 //! coupled is those that are made of it. So one pass from the last composition to the first finds for each the least
 //! value over the longer ones, and one from the first to the last that over the shorter ones.
 
-ghost use Rattle.std.specs.Prelude.{ℕ, ◌≡◌, ◌<◌, ◌+ℤ◌, ◌-ℤ◌, length, set, suc, ℤ, IfSome, Some, ◌+◌, is_none, false};
+ghost use Rattle.std.specs.Prelude.{ℕ, ◌≡◌, ◌<◌, ◌+ℤ◌, ◌-ℤ◌, length, set, suc, ℤ, IfSome, Some, ◌+◌, is_none};
+ghost use Rattle.std.specs.Prelude.{false, true};
 ghost use Rattle.timetable.specs.Links.{outgoing};
 ghost use Rattle.price_bound.specs.CellRows.{MayRunOn, all_bare, cell_in, comps_of, row_on};
 ghost use Rattle.price_bound.specs.CellSizes.{AreSmallCells, IsSmall, IsSmallStep, most_ahead, most_offered};
@@ -20,13 +21,16 @@ ghost use Rattle.price_bound.specs.PassValues.{IsPassedSmall, IsPlainTurn, comps
 ghost use Rattle.price_bound.specs.PassValues.{value_at};
 ghost use Rattle.price_bound.specs.Paths.{with_priced_cost};
 ghost use Rattle.price_bound.specs.Pricing.{ArePriced, priced_by};
+ghost use Rattle.price_bound.specs.RowValues.{IsForPassed, IsStepOn, is_had, passed_cell, priced_on};
 ghost use Rattle.price_bound.specs.TripAndLinkPrices.{IsForTrip};
 
-use crate::cells::{Cell, CellRow, NO_VALUE, cell_in, with_priced_cost};
+use crate::cells::{Cell, CellRow, NO_VALUE, cell_in, value_of, with_priced_cost};
 use crate::pass_room::PassRoom;
 use crate::priced::Pricing;
 use crate::priced_costs::{Amount, PricedCosts, weighted};
+use crate::row_values::RowValues;
 use crate::turn_prices::shunting_cost;
+use rail_base::limits::MAX_COMPOSITIONS;
 use rail_base::{CompNo, LinkNo, TripNo};
 use rail_csv::End;
 
@@ -68,6 +72,17 @@ pub(crate) struct Passes<'a> {
     pub debits: &'a [i64],
 }
 
+/// What stands in the row of a trip, by the values that the passes found.
+#[derive(Drop)]
+pub(crate) struct PassedValues<'a> {
+    /// What compositions cost on the trip.
+    pub priced_costs: &'a PricedCosts<'a>,
+    /// The values that the passes found.
+    pub values: &'a [i64],
+    /// The row of the next trip.
+    pub ahead: &'a CellRow,
+}
+
 /// Makes the row of a trip from which a turn without exchange leads on.
 pub(crate) fn fill_by_passes(
     passes: &Passes<'_>,
@@ -90,10 +105,30 @@ pub(crate) fn fill_by_passes(
     ensures row { row.new ≡ all_bare (row_on (priced_for passes.now) priced_costs.now.trip ahead.now) }
     ensures small { IsSmallStep most_step ahead.now row.new }
 {
+    prove!(priced_costs.pricing.instance.catalogue().len() as usize <= MAX_COMPOSITIONS);
     passes.put_all(ahead.values(), room);
-    for comp in 0..priced_costs.pricing.instance.catalogue().len() {
-        let cell = passed_with_priced_cost(priced_costs, CompNo(comp), &room.values);
-        row.put(CompNo(comp), cell);
+    let values = PassedValues {
+        priced_costs,
+        values: &room.values,
+        ahead,
+    };
+    row.fill(&values, priced_costs.set);
+}
+
+impl<'a> RowValues for PassedValues<'a> {
+    ghost comps = { λ passed. comps_of (priced_on passed.priced_costs.now) };
+
+    ghost member = { λ passed. is_had passed.priced_costs.now };
+
+    ghost cell = { passed_cell };
+
+    ghost IsFew = { λ passed. IsStepOn passed.ahead.now };
+
+    ghost are_of_trip = { IsForPassed };
+
+    fn value(&self, comp: CompNo) -> i64 {
+        let cell = passed_with_priced_cost(self.priced_costs, comp, self.values);
+        value_of(cell)
     }
 }
 
@@ -106,6 +141,7 @@ fn passed_with_priced_cost(
     requires priced_costs { IsForTrip priced_costs.now }
     requires leads { is_none (outgoing priced_costs.now.pricing.now.instance.now priced_costs.now.trip) ≡ false }
     requires comp { comp < comps_of (priced_by priced_costs.now.pricing.now) }
+    requires member { is_had priced_costs.now comp ≡ true }
     requires values { length values.now ≡ comps_of (priced_by priced_costs.now.pricing.now) }
     requires small { IsPassedSmall (priced_by priced_costs.now.pricing.now) priced_costs.now.trip comp most_offered
         (value_at values.now comp) }
@@ -116,7 +152,7 @@ fn passed_with_priced_cost(
         (bound + most_edge_price) (value_at values.now comp)
         → IfSome result (λ cell. IsSmall (bound + most_step) cell.value) }
 {
-    let Some(priced_cost) = priced_costs.priced_cost(comp) else {
+    let Some(priced_cost) = priced_costs.of_member(comp) else {
         return None;
     };
     let value = value_at(values, comp.place());
@@ -248,7 +284,7 @@ impl<'a> Passes<'a> {
 }
 
 /// Puts no value.
-fn clear(values: &mut [i64])
+pub(crate) fn clear(values: &mut [i64])
     ensures long { length values.new ≡ length values.old }
     ensures none { (place : ℕ) → place < length values.old → value_at values.new place ≡ no_value }
 {

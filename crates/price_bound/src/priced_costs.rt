@@ -1,7 +1,7 @@
 //! What compositions cost on trips under prices, and the sums of amounts of which they and prices are made.
 
 ghost use Rattle.std.specs.Prelude.{ℕ, ◌≡◌, ◌<◌, ◌≤◌, ◌+◌, ◌*◌, ◌+ℤ◌, ◌-ℤ◌, [], length, get_or, take, pos, All};
-ghost use Rattle.std.specs.Prelude.{IfSome, IsTrue, is_none, if◌then◌else◌, option_map, slice_get};
+ghost use Rattle.std.specs.Prelude.{IfSome, IsTrue, true, is_none, if◌then◌else◌, option_map, slice_get};
 ghost use Rattle.compositions.specs.Composition.{are_types};
 ghost use Rattle.timetable.specs.Compositions.{compositions_of, composition_at};
 ghost use Rattle.timetable.specs.Links.{incoming, outgoing};
@@ -15,6 +15,7 @@ ghost use Rattle.price_bound.specs.Costs.{admitted_cost};
 ghost use Rattle.price_bound.specs.Credits.{AreSmallAmounts, sum_in};
 ghost use Rattle.price_bound.specs.Pricing.{ArePriced, priced_by};
 ghost use Rattle.price_bound.specs.Regrouped.{second_price, trip_value};
+ghost use Rattle.price_bound.specs.RowValues.{is_had};
 ghost use Rattle.price_bound.specs.YardPrices.{giving, taking};
 
 use crate::costs::cost_in;
@@ -90,6 +91,20 @@ impl<'a> PricedCosts<'a> {
         if !self.set.has(comp) {
             return None;
         }
+        self.of_member(comp)
+    }
+
+    /// What a composition that the region has for the trip costs on it under prices, or nothing where it may not run on
+    /// the trip.
+    pub(crate) fn of_member(&self, comp: CompNo) -> Option<Amount>
+        requires is { IsForTrip self.now }
+        requires comp { comp < length (compositions_of self.now.pricing.now.instance.now) }
+        requires member { is_had self.now comp ≡ true }
+        ensures value { option_map (λ priced_cost. priced_cost.0) result
+            ≡ priced_cost_of (priced_by self.now.pricing.now) self.now.trip comp }
+        ensures small { IfSome result (λ priced_cost. IsSmall
+            (most_priced_cost (is_none (outgoing self.now.pricing.now.instance.now self.now.trip))) priced_cost.0) }
+    {
         let cost = self.cost(comp)?;
         Some(self.trip_value(comp, weighted(self.weight, cost)))
     }

@@ -1,0 +1,118 @@
+//! Rows that are made by the members of a set: no other composition has a cell.
+//!
+//! A word of the set tells of 64 compositions at once whether they are members, and words without members are passed
+//! over.
+
+ghost use Rattle.std.specs.Prelude.{ℕ, ◌≡◌, ◌<◌, ◌≤◌, ◌+◌, ◌*◌, ◌/◌, ◌%◌, ◌^◌, ◌==◌, Bool, None, Option, length, true};
+ghost use Rattle.std.specs.Prelude.{slice_index};
+ghost use Rattle.price_bound.specs.declared.cells.Cell.{Cell};
+ghost use Rattle.price_bound.specs.CellRows.{IsHeld, bare, cell_in, comps_of};
+ghost use Rattle.price_bound.specs.RowValues.{AreFilled, HaveNone, IsOneStepAt, TellsMembers, end_cell, is_had};
+ghost use Rattle.price_bound.specs.RowValues.{priced_on};
+ghost use Rattle.price_bound.specs.TripAndLinkPrices.{IsForTrip};
+
+use crate::cells::{Cell, value_of, with_priced_cost};
+use crate::passes::clear;
+use crate::priced_costs::PricedCosts;
+use branch_tree::sets::WORD_BITS;
+use rail_base::CompNo;
+use rail_base::limits::MAX_COMPOSITIONS;
+
+/// What stands in the row of a trip.
+pub(crate) trait RowValues {
+    /// How many compositions there are.
+    ghost comps: { Self → ℕ };
+
+    /// Whether a composition is a member of the trip's set.
+    ghost member: { Self → ℕ → Bool };
+
+    /// The cell of a composition, but for where it leads.
+    ghost cell: { Self → ℕ → Option Cell };
+
+    /// Whether a cell is as small as those of the row.
+    ghost IsFew: { Self → Option Cell → Type 0 };
+
+    /// Whether the amounts are those of the trip.
+    ghost are_of_trip: { Self → Type 0 };
+
+    /// What stands in the row for a member.
+    fn value(&self, comp: CompNo) -> i64
+        requires are { are_of_trip self.now }
+        requires comp { comp < comps self.now }
+        requires member { member self.now comp ≡ true }
+        ensures cell { cell_in result ≡ bare (cell self.now comp) }
+        ensures held { IsHeld result }
+        ensures few { IsFew self.now (cell_in result) };
+}
+
+/// What stands in the row of the last trip of a chain.
+#[derive(Drop)]
+pub(crate) struct EndValues<'a> {
+    /// What compositions cost on the trip.
+    pub priced_costs: &'a PricedCosts<'a>,
+}
+
+impl<'a> RowValues for EndValues<'a> {
+    ghost comps = { λ values. comps_of (priced_on values.priced_costs.now) };
+
+    ghost member = { λ values. is_had values.priced_costs.now };
+
+    ghost cell = { λ values. end_cell values.priced_costs.now };
+
+    ghost IsFew = { λ values. IsOneStepAt };
+
+    ghost are_of_trip = { λ values. IsForTrip values.priced_costs.now };
+
+    fn value(&self, comp: CompNo) -> i64 {
+        let priced_cost = self.priced_costs.of_member(comp);
+        let end = Cell {
+            value: 0,
+            next: CompNo(0),
+        };
+        let cell = with_priced_cost(priced_cost, Some(end));
+        value_of(cell)
+    }
+}
+
+/// Puts into a row what stands there for the members of a set, of which these are the words.
+pub(crate) fn put_row<V: RowValues>(values: &V, words: &[u64], row: &mut [i64])
+    requires are { V.are_of_trip values.now }
+    requires bits { (comp : ℕ) → V.member values.now comp
+        ≡ (slice_index words.now (comp / WORD_BITS) / 2 ^ (comp % WORD_BITS) % 2 == 1) }
+    requires words { V.comps values.now ≤ length words.now * WORD_BITS }
+    requires none { HaveNone (V.member values.now) (V.cell values.now) }
+    requires few { V.IsFew values.now None }
+    requires most { V.comps values.now ≤ MAX_COMPOSITIONS }
+    requires row { length row.old ≡ V.comps values.now }
+    ensures { AreFilled (V.comps values.now) (V.cell values.now) (V.IsFew values.now) (V.comps values.now) row.new }
+{
+    clear(row);
+    let used = words.len().min(row.len() / WORD_BITS + 1);
+    for place in 0..used {
+        put_word(values, words[place], (place * WORD_BITS) as u32, row);
+    }
+}
+
+/// Puts into a row what stands there for the members that a word tells of, from a composition on.
+fn put_word<V: RowValues>(values: &V, word: u64, begin: u32, row: &mut [i64])
+    requires are { V.are_of_trip values.now }
+    requires bits { TellsMembers (V.member values.now) begin word }
+    requires none { HaveNone (V.member values.now) (V.cell values.now) }
+    requires few { V.IsFew values.now None }
+    requires most { V.comps values.now ≤ MAX_COMPOSITIONS }
+    requires begin { begin ≤ MAX_COMPOSITIONS }
+    requires row { AreFilled (V.comps values.now) (V.cell values.now) (V.IsFew values.now) begin row.old }
+    ensures { AreFilled (V.comps values.now) (V.cell values.now) (V.IsFew values.now) (begin + WORD_BITS) row.new }
+{
+    if word == 0 {
+        return;
+    }
+    let end = (begin as usize + WORD_BITS).min(row.len()) as u32;
+    let mut left = word;
+    for comp in begin..end {
+        if left % 2 == 1 {
+            row[comp as usize] = values.value(CompNo(comp));
+        }
+        left /= 2;
+    }
+}
