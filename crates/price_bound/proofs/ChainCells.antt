@@ -1,14 +1,12 @@
 -- The rows of a chain while they are made, from its last trip to its first, and the path along them.
 use Rattle.std.proofs.Common.{◌≡◌, ℕ, zero, suc, ◌+◌, ◌++◌, ◌*◌, ◌<◌, ◌≤◌, List, [], ◌∷◌, length, get_or, set}
-use Rattle.std.proofs.Common.{replicate, map, take}
-use Rattle.std.proofs.Common.{drop, Option, Some, None, refl, sym, ap, ◌∙◌, subst, arith, ℤ, ◌+ℤ◌, inl, inr, slice_get}
-use Rattle.std.proofs.Common.{length-set, length-drop, Bool, true, false, cond, Contains}
+use Rattle.std.proofs.Common.{replicate, map, take, drop, Option, Some, None, refl, sym, ap, ◌∙◌, subst, arith, ℤ, ◌+ℤ◌}
+use Rattle.std.proofs.Common.{inl, inr, slice_get, length-set, length-drop, Bool, true, false, cond, Contains}
 use Rattle.std.specs.Prelude.{fold, int_lt, option_map, IfSome}
 use Rattle.std.proofs.Math.Seq.{drop-cons}
 use Rattle.std.proofs.lemmas.Bool.{cases_eq, cases_lt}
-use Rattle.std.proofs.lemmas.List.{drop_all, get_or-append-add, get_or-replicate, get_or_append_left}
-use Rattle.std.proofs.lemmas.List.{get_or_default, set-append_left, get_or-set_same, get_or-set_other, get_or-take}
-use Rattle.std.proofs.lemmas.List.{get_or_past}
+use Rattle.std.proofs.lemmas.List.{drop_all, get_or-append-add, get_or-replicate, get_or_append_left, get_or_default}
+use Rattle.std.proofs.lemmas.List.{set-append_left, get_or-set_same, get_or-set_other, get_or-take, get_or_past}
 use Rattle.std.proofs.lemmas.List.{length-replicate}
 use Rattle.transitions.specs.declared.edge.Edge.{Edge}
 use Rattle.transitions.specs.Edges.{AreGraphs, IsEdge, IsKindEdge}
@@ -117,11 +115,6 @@ length-offered priced link ahead row = each (edges_of priced link) row
 pub priced_cost_few : (ends : Bool) → most_priced_cost ends ≤ 21000000000000000
 priced_cost_few true = omega arith
 priced_cost_few false = omega arith
-
-pub priced_cost_in_step : (ends : Bool) (o : Option Amount) → IfSome o (λ it. IsSmall (most_priced_cost ends) it.0)
-    → IfSome o (λ it. IsSmall 21000000000000000 it.0)
-priced_cost_in_step ends None small = tt
-priced_cost_in_step ends (Some priced_cost) small = small_more (most_priced_cost ends) 21000000000000000 priced_cost.0 (priced_cost_few ends) small
 
 pub priced_cost_at : (most : ℕ) (o : Option Amount) (priced_cost : Option ℤ) → option_map (λ it. it.0) o ≡ priced_cost → IfSome o (λ it. IsSmall most it.0)
     → IfSome priced_cost (IsSmall most)

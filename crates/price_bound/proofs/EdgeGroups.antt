@@ -286,16 +286,6 @@ module _ (priced : Priced) (t : ℕ) where
       ∙ ap (λ (i : ℕ). with_priced_cost (priced_cost_of priced t i) (get_or (replicate (comps_of priced) (Some (record { value = pos 0; next = 0 }))) k None)) same
       ∙ ap (with_priced_cost (priced_cost_of priced t k)) (get_or-replicate (comps_of priced) k (Some (record { value = pos 0; next = 0 })) None below)
 
--- a priced cost alone is small
-pub last_small : (ends : Bool) (priced_cost : Option Amount) (cell : Option Cell) → IfSome priced_cost (λ it. IsSmall (most_priced_cost ends) it.0)
-    → cell ≡ with_priced_cost (option_map (λ it. it.0) priced_cost) (Some (record { value = pos 0; next = 0 }))
-    → IfSome cell (λ it. IsSmall 21000000000000000 it.value)
-last_small ends priced_cost cell few is = subst (λ (o : Option Cell). IfSome o (λ it. IsSmall 21000000000000000 it.value)) (sym is)
-    (some_more (0 + most_priced_cost ends) 21000000000000000 (with_priced_cost (option_map (λ it. it.0) priced_cost) (Some (record { value = pos 0; next = 0 })))
-    (omega (arith, priced_cost_few ends))
-    (with_priced_cost_small 0 (most_priced_cost ends) (option_map (λ it. it.0) priced_cost) (Some (record { value = pos 0; next = 0 }))
-    (priced_cost_at (most_priced_cost ends) priced_cost (option_map (λ it. it.0) priced_cost) refl few) (small_zero 0)))
-
 -- ---- a trip from which no link leads on
 
 pub priced_costs_of_none : (stage : Stage) (at n : ℕ) → with_priced_costs stage at (replicate n None) ≡ replicate n None

@@ -91,17 +91,6 @@ least_more Over value other none least by each p = record {
     more : (x y : ℤ) → x ≤ℤ y → (x +ℤ by) ≤ℤ (y +ℤ by)
     more x y e = omega (arith, ints, e)
 
--- a lower none
-pub least_fewer : (Over : ℕ → Type 0) (value : ℕ → ℤ) (none other least : ℤ) → other ≤ℤ none → IsLeastOver Over value none least
-    → IsLeastOver Over value other least
-least_fewer Over value none other least under p = record {
-  reached = elim p.reached [ inl high ↦ inl (less other none least under high) | inr there ↦ inr there ];
-  below = p.below;
-}
-  where
-    less : (x y z : ℤ) → x ≤ℤ y → y ≤ℤ z → x ≤ℤ z
-    less x y z e f = omega (arith, ints, e, f)
-
 -- ---- from the lowest number on
 
 module _ (Of : ℕ → ℕ → Type 0) (rest : ℕ → ℕ) (n : ℕ) (tree : IsTree Of rest n) (value : ℕ → ℤ) (none : ℤ) where

@@ -15,9 +15,6 @@ use Rattle.price_bound.proofs.CompositionTrees.{number_past, part_there}
 
 -- ---- lists of places
 
-pub each_none : (Is : ℕ → ℕ → Type 0) (places : List ℕ) → length places ≡ 0 → AreEach Is 0 places
-each_none Is places long = record { long = long; each = λ k under. absurd (omega (arith, under)) }
-
 pub each_more : (Is : ℕ → ℕ → Type 0) (n : ℕ) (places : List ℕ) (one : ℕ) (new : List ℕ) → new ≡ places ++ one ∷ [] → AreEach Is n places → Is n one
     → AreEach Is (n + 1) new
 each_more Is n places one new is done here = subst (AreEach Is (n + 1)) (sym is) (record {

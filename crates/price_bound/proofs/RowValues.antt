@@ -94,15 +94,3 @@ pub bit_tells : (member : ℕ → Bool) (begin word comp left : ℕ) → TellsMe
 bit_tells member begin word comp left tells from to is =
     let place : begin + (comp - begin) ≡ comp = omega (arith, from) in
     ap member (sym place) ∙ tells (comp - begin) (omega (arith, from, to)) ∙ ap (λ (d : ℕ). eqb (d % 2) 1) (sym is)
-
--- the bits of a set's words tell of its members, word by word
-pub word_tells : (member : ℕ → Bool) (words : List ℕ) (place word : ℕ)
-    → ((comp : ℕ) → member comp ≡ eqb (get_or words (comp / 64) 0 / 2 ^ (comp % 64) % 2) 1) → word ≡ get_or words place 0
-    → TellsMembers member (place * 64) word
-word_tells member words place word tells is bit below =
-    let word_of : (place * 64 + bit) / 64 ≡ place = omega (arith, below) in
-    let bit_of : (place * 64 + bit) % 64 ≡ bit = omega (arith, below) in
-    tells (place * 64 + bit)
-    ∙ ap (λ (p : ℕ). eqb (get_or words p 0 / 2 ^ ((place * 64 + bit) % 64) % 2) 1) word_of
-    ∙ ap (λ (b : ℕ). eqb (get_or words place 0 / 2 ^ b % 2) 1) bit_of
-    ∙ ap (λ (w : ℕ). eqb (w / 2 ^ bit % 2) 1) (sym is)

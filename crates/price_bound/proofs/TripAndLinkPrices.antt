@@ -20,8 +20,7 @@ use Rattle.price_bound.specs.CellSizes.{IsSmall, most_price, most_units_price}
 use Rattle.price_bound.specs.ChainStages.{Priced, part_is_in, price_by_link, price_of}
 use Rattle.price_bound.specs.Costs.{IsCostOf, cost_in}
 use Rattle.price_bound.specs.Credits.{AreSmallAmounts, AreUnitPrices, sum_in}
-use Rattle.price_bound.specs.EdgeValues.{coupling_value, edge_value, part_multiplier, turn_value}
-use Rattle.price_bound.specs.EdgeValues.{uncoupling_value}
+use Rattle.price_bound.specs.EdgeValues.{coupling_value, edge_value, part_multiplier, turn_value, uncoupling_value}
 use Rattle.price_bound.specs.Pricing.{ArePriced, priced_by}
 use Rattle.price_bound.specs.Regrouped.{second_price}
 use Rattle.price_bound.specs.YardPrices.{giving, taking}

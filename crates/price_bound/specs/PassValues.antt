@@ -1,7 +1,6 @@
 -- Turns without exchange, whose edges are priced all together: by passes over the compositions.
 use Rattle.std.specs.Prelude.{ℕ, suc, ◌≡◌, ◌<◌, ◌≤◌, List, length, get_or, map, Bool, false, Option, Some, IfSome}
-use Rattle.std.specs.Prelude.{slice_get}
-use Rattle.std.specs.Prelude.{ℤ, pos, ◌+ℤ◌}
+use Rattle.std.specs.Prelude.{slice_get, ℤ, pos, ◌+ℤ◌}
 use Rattle.rules.specs.declared.records.End.{End}
 use Rattle.rules.specs.declared.records.Link.{Link}
 use Rattle.rules.specs.declared.records.LinkKind.TheVariants.{Turn}

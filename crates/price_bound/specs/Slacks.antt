@@ -1,7 +1,6 @@
 -- The slack of picks at each multiplier, and where picks that are no solution are broken.
-use Rattle.std.specs.Prelude.{ℕ, ◌+◌, List, length, position, Bool, not, ◌&&◌, ◌==◌, if◌then◌else◌}
-use Rattle.std.specs.Prelude.{Option, Some, None, option_map, unwrap_or, slice_get, false}
-use Rattle.std.specs.Prelude.{ℤ, pos, negsuc, neg_ℤ, ◌-ℤ◌, int_lt}
+use Rattle.std.specs.Prelude.{ℕ, ◌+◌, List, length, position, Bool, not, ◌&&◌, ◌==◌, if◌then◌else◌, Option, Some, None}
+use Rattle.std.specs.Prelude.{option_map, unwrap_or, slice_get, false, ℤ, pos, negsuc, neg_ℤ, ◌-ℤ◌, int_lt}
 use Rattle.timetable.specs.declared.day.indices.Place.{Place}
 use Rattle.timetable.specs.declared.day.indices.Place.TheVariants.{Lambda, Mu, Sigma}
 use Rattle.timetable.specs.declared.day.records.Handover.{Handover}

@@ -1,7 +1,6 @@
 -- One amount more is added up.
 use Rattle.std.proofs.Common.{◌≡◌, ◌<◌, ◌-◌, ◌++◌, ℕ, suc, ℤ, List, get_or, set, length, take, drop, pos, to_z, of_z}
-use Rattle.std.proofs.Common.{w64}
-use Rattle.std.proofs.Common.{ap, sym, subst, arith, ◌∙◌, rules}
+use Rattle.std.proofs.Common.{w64, ap, sym, subst, arith, ◌∙◌, rules}
 use Rattle.std.proofs.lemmas.List.{get_or_default}
 use Rattle.inventory.specs.CountTable.{plus}
 use Rattle.price_bound.specs.YardTables.{later_sums, whole_sum}
