@@ -13,12 +13,27 @@ use std::process::Abort;
 /// Room for the document of a small day, in bytes.
 const AMPLE_ROOM: usize = 10_000;
 
-/// The files of the tables of a day, with the weights 1, 1 and 100.
-fn files_of(
+/// Adds files, by their paths.
+fn add(
     rt: &impl Abort,
     alloc: Global,
+    files: &mut Vec<MemoryFile>,
+    rows: &[(&str, &[u8])],
+) -> Result<(), NoMemory> {
+    for (path, bytes) in rows {
+        assert!(rt; is_name(path.as_bytes()));
+        files.push(MemoryFile::new(alloc, *path, *bytes)?)?;
+    }
+    Ok(())
+}
+
+/// Adds the files of the tables of a day, with the weights 1, 1 and 100.
+fn add_day(
+    rt: &impl Abort,
+    alloc: Global,
+    files: &mut Vec<MemoryFile>,
     texts: &Texts<'_>,
-) -> Result<Vec<MemoryFile>, NoMemory> {
+) -> Result<(), NoMemory> {
     let rows: [(&str, &[u8]); 6] = [
         ("day/types.csv", texts.types),
         ("day/stations.csv", texts.stations),
@@ -27,12 +42,7 @@ fn files_of(
         ("day/links.csv", texts.links),
         ("day/weights.csv", b"carriage,shortage,shunting\n1,1,100\n"),
     ];
-    let mut files = Vec::new(alloc);
-    for (path, bytes) in &rows {
-        assert!(rt; is_name(path.as_bytes()));
-        files.push(MemoryFile::new(alloc, *path, *bytes)?)?;
-    }
-    Ok(files)
+    add(rt, alloc, files, &rows)
 }
 
 /// The folder `day` with the tables of a day, whose reads fail at these numbers.
@@ -53,11 +63,9 @@ pub(crate) fn folder_with(
     more: &[(&str, &[u8])],
     failing: &[u64],
 ) -> Result<MemoryFolder, NoMemory> {
-    let mut files = files_of(rt, alloc, texts)?;
-    for (path, bytes) in more {
-        assert!(rt; is_name(path.as_bytes()));
-        files.push(MemoryFile::new(alloc, *path, *bytes)?)?;
-    }
+    let mut files = Vec::new(alloc);
+    add_day(rt, alloc, &mut files, texts)?;
+    add(rt, alloc, &mut files, more)?;
     MemoryFolder::new(alloc, files, failing.to_vec(alloc)?)
 }
 
@@ -81,7 +89,7 @@ pub(crate) enum Program {
 }
 
 /// The status of words over a folder and a sink, with the advisors that both programs have.
-fn run(
+fn run_over(
     alloc: Global,
     program: Program,
     words: &Words,
@@ -102,22 +110,27 @@ pub(crate) fn ample_sink(alloc: Global) -> Result<MemorySink, NoMemory> {
     MemorySink::new(alloc, AMPLE_ROOM, 1000, Vec::new(alloc))
 }
 
-/// The status of words after the program's name over a folder, and what is written then.
-pub(crate) fn said(
-    rt: &impl Abort,
-    alloc: Global,
-    program: Program,
-    words: &[&str],
-    folder: &mut MemoryFolder,
-) -> Result<(u8, MemorySink), NoMemory> {
+/// The words after the program's name, with that before them.
+fn words_after_name(rt: &impl Abort, alloc: Global, words: &[&str]) -> Result<Words, NoMemory> {
     let mut given = words_of(rt, alloc, &["program"])?;
     for word in words {
         assert!(rt; given.len() < 1000);
         given.push(*word)?;
     }
-    let mut out = ample_sink(alloc)?;
-    let status = run(alloc, program, &given, folder, &mut out)?;
-    Ok((status, out))
+    Ok(given)
+}
+
+/// The status of words after the program's name over a folder and a sink.
+pub(crate) fn status_of(
+    rt: &impl Abort,
+    alloc: Global,
+    program: Program,
+    words: &[&str],
+    folder: &mut MemoryFolder,
+    out: &mut MemorySink,
+) -> Result<u8, NoMemory> {
+    let given = words_after_name(rt, alloc, words)?;
+    run_over(alloc, program, &given, folder, out)
 }
 
 /// Asserts the status of the desk on a day by words after the program's name, and all that it writes.
@@ -142,8 +155,71 @@ pub(crate) fn expect_over(
     status: u8,
     document: &str,
 ) -> Result<(), NoMemory> {
-    let (found, out) = said(rt, alloc, Program::Raildesk, words, folder)?;
-    assert!(rt; out.written() == document.as_bytes());
+    let mut out = ample_sink(alloc)?;
+    let found = status_of(rt, alloc, Program::Raildesk, words, folder, &mut out)?;
+    assert!(rt; out.written() == document.as_bytes(), "{document}");
+    assert!(rt; found == status, "{document}");
+    Ok(())
+}
+
+/// Asserts the status of the desk over a folder, and how the document begins.
+pub(crate) fn expect_front(
+    rt: &impl Abort,
+    alloc: Global,
+    folder: &mut MemoryFolder,
+    words: &[&str],
+    status: u8,
+    front: &str,
+) -> Result<(), NoMemory> {
+    let mut out = ample_sink(alloc)?;
+    let found = status_of(rt, alloc, Program::Raildesk, words, folder, &mut out)?;
+    assert!(rt; out.written().starts_with(front.as_bytes()), "{front}");
+    assert!(rt; found == status, "{front}");
+    Ok(())
+}
+
+/// Asserts that a run over a folder, a program and its words, writes this and ends with this status.
+pub(crate) fn expect_written(
+    rt: &impl Abort,
+    alloc: Global,
+    folder: &mut MemoryFolder,
+    run: (Program, &[&str]),
+    status: u8,
+    document: &[u8],
+) -> Result<(), NoMemory> {
+    let mut out = ample_sink(alloc)?;
+    let found = status_of(rt, alloc, run.0, run.1, folder, &mut out)?;
+    assert!(rt; out.written() == document);
     assert!(rt; found == status);
+    Ok(())
+}
+
+/// A run of the desk: a day, more files of its folder by their paths, the reads that fail, the words after the
+/// program's name, the status, and all that is written.
+#[derive(Clone, Copy)]
+pub(crate) struct Run<'a> {
+    pub(crate) texts: Texts<'a>,
+    pub(crate) more: &'a [(&'a str, &'a [u8])],
+    pub(crate) failing: &'a [u64],
+    pub(crate) words: &'a [&'a str],
+    pub(crate) status: u8,
+    pub(crate) document: &'a str,
+}
+
+/// Asserts what comes of a run.
+fn expect_run(rt: &impl Abort, alloc: Global, run: &Run<'_>) -> Result<(), NoMemory> {
+    let mut folder = folder_with(rt, alloc, &run.texts, run.more, run.failing)?;
+    expect_over(rt, alloc, &mut folder, run.words, run.status, run.document)
+}
+
+/// Asserts what comes of each run.
+pub(crate) fn expect_runs(
+    rt: &impl Abort,
+    alloc: Global,
+    runs: &[Run<'_>],
+) -> Result<(), NoMemory> {
+    for run in runs {
+        expect_run(rt, alloc, run)?;
+    }
     Ok(())
 }

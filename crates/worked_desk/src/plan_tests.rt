@@ -1,6 +1,8 @@
 //! Days that are planned at the desk.
 
-use crate::desk::{Program, expect, folder_of, said};
+use crate::desk::{
+    Program, Run, ample_sink, expect_front, expect_runs, expect_written, folder_of, status_of,
+};
 use rail_base::NoMemory;
 use sample_days::{ONE_LEFT, RING, TURN, TWO_TYPES, Texts};
 use std::alloc::Global;
@@ -13,39 +15,57 @@ const WANTED: Texts<'static> = Texts {
     ..TURN
 };
 
-/// Asserts the status of the desk on a day, and the second line of its answer.
+/// Asserts the status of the desk on a day, and how the document begins.
 fn expect_head(
     rt: &impl Abort,
     alloc: Global,
     texts: &Texts<'_>,
     words: &[&str],
     status: u8,
-    head: &str,
+    front: &str,
 ) -> Result<(), NoMemory> {
     let mut folder = folder_of(rt, alloc, texts, &[])?;
-    let (found, out) = said(rt, alloc, Program::Raildesk, words, &mut folder)?;
-    let front = format!(in alloc; "railplan answer 1\n{head}\n")?;
-    assert!(rt; out.written().starts_with(front.as_bytes()));
-    assert!(rt; found == status);
-    Ok(())
+    expect_front(rt, alloc, &mut folder, words, status, front)
 }
+
+/// Days, words, the status, and the first two lines of the answer.
+const HEADS: &[(Texts<'static>, &[&str], u8, &str)] = &[
+    (
+        TURN,
+        &["plan", "day"],
+        0,
+        "railplan answer 1\noptimal 120\n",
+    ),
+    (
+        ONE_LEFT,
+        &["plan", "day"],
+        0,
+        "railplan answer 1\noptimal 190\n",
+    ),
+    (
+        RING,
+        &["plan", "day"],
+        0,
+        "railplan answer 1\noptimal 1270\n",
+    ),
+    (
+        WANTED,
+        &["plan", "day"],
+        1,
+        "railplan answer 1\ninfeasible\n",
+    ),
+    (
+        ONE_LEFT,
+        &["plan", "day", "--nodes", "0", "--evaluations", "0"],
+        4,
+        "railplan answer 1\nbounded 120\n",
+    ),
+];
 
 #[test]
 fn the_status_is_that_of_the_answer(rt: HostRuntime) -> Result<(), Fail> {
-    let rows: [(&Texts<'_>, &[&str], u8, &str); 5] = [
-        (&TURN, &["plan", "day"], 0, "optimal 120"),
-        (&ONE_LEFT, &["plan", "day"], 0, "optimal 190"),
-        (&RING, &["plan", "day"], 0, "optimal 1270"),
-        (&WANTED, &["plan", "day"], 1, "infeasible"),
-        (
-            &ONE_LEFT,
-            &["plan", "day", "--nodes", "0", "--evaluations", "0"],
-            4,
-            "bounded 120",
-        ),
-    ];
-    for (texts, words, status, head) in &rows {
-        expect_head(&rt, rt.alloc(), *texts, *words, *status, *head)?;
+    for (texts, words, status, front) in HEADS {
+        expect_head(&rt, rt.alloc(), texts, *words, *status, *front)?;
     }
     Ok(())
 }
@@ -59,11 +79,9 @@ fn expect_alike(
     second: (Program, &[&str]),
 ) -> Result<(), NoMemory> {
     let mut folder = folder_of(rt, alloc, texts, &[])?;
-    let (status, answer) = said(rt, alloc, first.0, first.1, &mut folder)?;
-    let (found, out) = said(rt, alloc, second.0, second.1, &mut folder)?;
-    assert!(rt; out.written() == answer.written());
-    assert!(rt; found == status);
-    Ok(())
+    let mut out = ample_sink(alloc)?;
+    let status = status_of(rt, alloc, first.0, first.1, &mut folder, &mut out)?;
+    expect_written(rt, alloc, &mut folder, second, status, out.written())
 }
 
 /// Asserts that without an improver the desk writes what the first program writes.
@@ -94,161 +112,238 @@ fn expect_as_first(
     )
 }
 
+/// Days on which two runs are compared.
+const COMPARED: &[Texts<'static>] = &[TURN, ONE_LEFT, TWO_TYPES, RING, WANTED];
+
+/// How many branchings and how many rounds are granted in both programs.
+const BRANCHINGS_AND_ROUNDS: &[(&str, &str)] = &[
+    ("0", "0"),
+    ("0", "2"),
+    ("0", "20"),
+    ("1", "0"),
+    ("1", "2"),
+    ("1", "20"),
+    ("3", "0"),
+    ("3", "2"),
+    ("3", "20"),
+    ("200", "0"),
+    ("200", "2"),
+    ("200", "20"),
+];
+
 #[test]
 fn without_evaluations_it_is_the_first_program(rt: HostRuntime) -> Result<(), Fail> {
-    for texts in &[TURN, ONE_LEFT, TWO_TYPES, RING, WANTED] {
-        for nodes in &["0", "1", "3", "200"] {
-            for rounds in &["0", "2", "20"] {
-                expect_as_first(&rt, rt.alloc(), texts, *nodes, *rounds)?;
-            }
+    for texts in COMPARED {
+        for (nodes, rounds) in BRANCHINGS_AND_ROUNDS {
+            expect_as_first(&rt, rt.alloc(), texts, *nodes, *rounds)?;
         }
     }
     Ok(())
 }
 
+/// The words that plan a day with what is usual, and the same with nothing given.
+const USUAL: &[&str] = &[
+    "plan",
+    "day",
+    "--nodes",
+    "200",
+    "--rounds",
+    "0",
+    "--evaluations",
+    "500",
+];
+
+const SHORT: &[&str] = &["plan", "day"];
+
 #[test]
 fn what_is_not_given_is_usual(rt: HostRuntime) -> Result<(), Fail> {
-    let usual = [
-        "plan",
-        "day",
-        "--nodes",
-        "200",
-        "--rounds",
-        "0",
-        "--evaluations",
-        "500",
-    ];
-    let short = ["plan", "day"];
-    for texts in &[TURN, ONE_LEFT, TWO_TYPES, RING, WANTED] {
-        expect_alike(
-            &rt,
-            rt.alloc(),
-            texts,
-            (Program::Raildesk, &usual),
-            (Program::Raildesk, &short),
-        )?;
+    for texts in COMPARED {
+        let usual = (Program::Raildesk, USUAL);
+        let short = (Program::Raildesk, SHORT);
+        expect_alike(&rt, rt.alloc(), texts, usual, short)?;
     }
     Ok(())
 }
 
-/// How many evaluations are granted on the day where one unit is left at Y, and no branching is; the status then, and
-/// the second line of the answer. The bounds were worked out by another program, which takes the same steps.
-const GRANTED: [(&str, u8, &str); 5] = [
-    ("0", 4, "bounded 120"),
-    ("1", 4, "bounded 120 plan 190"),
-    ("2", 4, "bounded 160 plan 190"),
-    ("10", 4, "bounded 188 plan 190"),
-    ("500", 0, "optimal 190"),
-];
-
-#[test]
-fn evaluations_are_granted_whether_progress_is_told_or_not(rt: HostRuntime) -> Result<(), Fail> {
-    for (evaluations, status, head) in &GRANTED {
-        let words = [
+/// Words that grant so many evaluations on the day where one unit is left at Y, and no branching; the status then, and
+/// the first two lines of the answer. The bounds were worked out by another program, which takes the same steps.
+const GRANTED: &[([&str; 7], u8, &str)] = &[
+    (
+        [
             "plan",
             "day",
             "--nodes",
             "0",
             "--evaluations",
-            *evaluations,
+            "0",
             "--progress",
-        ];
-        expect_head(&rt, rt.alloc(), &ONE_LEFT, &words, *status, *head)?;
-        expect_alike(
-            &rt,
-            rt.alloc(),
-            &ONE_LEFT,
-            (Program::Raildesk, &words),
-            (Program::Raildesk, &words[..6]),
-        )?;
-    }
-    Ok(())
-}
-
-/// Asserts that the desk refuses a file of a day, and names it and says no more.
-fn expect_refused(
-    rt: &impl Abort,
-    alloc: Global,
-    texts: &Texts<'_>,
-    file: &str,
-) -> Result<(), NoMemory> {
-    let line = format!(in alloc; "refused {file}\n")?;
-    expect(rt, alloc, texts, &["plan", "day"], 3, line.as_str())
-}
-
-/// Days of which a file is refused, and its name: each but the weights wrong by itself; a stock that is right by
-/// itself, but names a station that there isn't; and of two files that are wrong, the one that is read first.
-const REFUSED: [(Texts<'static>, &str); 7] = [
-    (
-        Texts {
-            types: b"type\n",
-            ..TURN
-        },
-        "types.csv",
+        ],
+        4,
+        "railplan answer 1\nbounded 120\n",
     ),
     (
-        Texts {
-            stations: b"\xff\n",
-            ..TURN
-        },
-        "stations.csv",
-    ),
-    (Texts { stock: b"", ..TURN }, "stock.csv"),
-    (
-        Texts {
-            trips: b"kind,arriving,arriving2,departing,departing2,reverse,uncouple,couple\n",
-            ..TURN
-        },
-        "trips.csv",
+        [
+            "plan",
+            "day",
+            "--nodes",
+            "0",
+            "--evaluations",
+            "1",
+            "--progress",
+        ],
+        4,
+        "railplan answer 1\nbounded 120 plan 190\n",
     ),
     (
-        Texts {
-            links: b"trip,from,departure,to,arrival,km,demand\n",
-            ..TURN
-        },
-        "links.csv",
+        [
+            "plan",
+            "day",
+            "--nodes",
+            "0",
+            "--evaluations",
+            "2",
+            "--progress",
+        ],
+        4,
+        "railplan answer 1\nbounded 160 plan 190\n",
     ),
     (
-        Texts {
-            stock: b"station,type,start,end\nZ,A,2,2\n",
-            ..TURN
-        },
-        "stock.csv",
+        [
+            "plan",
+            "day",
+            "--nodes",
+            "0",
+            "--evaluations",
+            "10",
+            "--progress",
+        ],
+        4,
+        "railplan answer 1\nbounded 188 plan 190\n",
     ),
     (
-        Texts {
-            stations: b"\n",
-            trips: b"\n",
-            ..TURN
-        },
-        "stations.csv",
+        [
+            "plan",
+            "day",
+            "--nodes",
+            "0",
+            "--evaluations",
+            "500",
+            "--progress",
+        ],
+        0,
+        "railplan answer 1\noptimal 190\n",
     ),
 ];
 
 #[test]
-fn a_file_that_is_refused_is_named(rt: HostRuntime) -> Result<(), Fail> {
-    for (texts, file) in &REFUSED {
-        expect_refused(&rt, rt.alloc(), texts, *file)?;
+fn evaluations_are_granted_whether_progress_is_told_or_not(rt: HostRuntime) -> Result<(), Fail> {
+    for (words, status, front) in GRANTED {
+        expect_head(&rt, rt.alloc(), &ONE_LEFT, words, *status, *front)?;
+        let told = (Program::Raildesk, words.as_slice());
+        let not_told = (Program::Raildesk, &words[..6]);
+        expect_alike(&rt, rt.alloc(), &ONE_LEFT, told, not_told)?;
     }
     Ok(())
 }
 
+/// A run in which a file of the turn is refused.
+const REFUSED: Run<'static> = Run {
+    texts: TURN,
+    more: &[],
+    failing: &[],
+    words: SHORT,
+    status: 3,
+    document: "",
+};
+
+/// A run in which a read of the turn fails. Each table takes two, of which the second finds its end.
+const UNREAD: Run<'static> = Run {
+    status: 5,
+    ..REFUSED
+};
+
+/// Days of which a file is refused, and named: each but the weights wrong by itself; a stock that is right by itself,
+/// but names a station that there isn't; and of two files that are wrong, the one that is read first. And days of which
+/// a file can't be read, and is named.
+const NAMED: &[Run<'static>] = &[
+    Run {
+        texts: Texts {
+            types: b"type\n",
+            ..TURN
+        },
+        document: "refused types.csv\n",
+        ..REFUSED
+    },
+    Run {
+        texts: Texts {
+            stations: b"\xff\n",
+            ..TURN
+        },
+        document: "refused stations.csv\n",
+        ..REFUSED
+    },
+    Run {
+        texts: Texts { stock: b"", ..TURN },
+        document: "refused stock.csv\n",
+        ..REFUSED
+    },
+    Run {
+        texts: Texts {
+            trips: b"kind,arriving,arriving2,departing,departing2,reverse,uncouple,couple\n",
+            ..TURN
+        },
+        document: "refused trips.csv\n",
+        ..REFUSED
+    },
+    Run {
+        texts: Texts {
+            links: b"trip,from,departure,to,arrival,km,demand\n",
+            ..TURN
+        },
+        document: "refused links.csv\n",
+        ..REFUSED
+    },
+    Run {
+        texts: Texts {
+            stock: b"station,type,start,end\nZ,A,2,2\n",
+            ..TURN
+        },
+        document: "refused stock.csv\n",
+        ..REFUSED
+    },
+    Run {
+        texts: Texts {
+            stations: b"\n",
+            trips: b"\n",
+            ..TURN
+        },
+        document: "refused stations.csv\n",
+        ..REFUSED
+    },
+    Run {
+        failing: &[0],
+        document: "cannot read types.csv\n",
+        ..UNREAD
+    },
+    Run {
+        failing: &[3],
+        document: "cannot read stations.csv\n",
+        ..UNREAD
+    },
+    Run {
+        failing: &[8],
+        document: "cannot read links.csv\n",
+        ..UNREAD
+    },
+    Run {
+        failing: &[11],
+        document: "cannot read weights.csv\n",
+        ..UNREAD
+    },
+];
+
 #[test]
-fn a_file_that_cannot_be_read_is_named(rt: HostRuntime) -> Result<(), Fail> {
-    // Each table takes two reads, of which the second finds its end.
-    let rows: [(u64, &str); 4] = [
-        (0, "types.csv"),
-        (3, "stations.csv"),
-        (8, "links.csv"),
-        (11, "weights.csv"),
-    ];
-    for (read, file) in &rows {
-        let mut folder = folder_of(&rt, rt.alloc(), &TURN, &[*read])?;
-        let words = ["plan", "day"];
-        let (status, out) = said(&rt, rt.alloc(), Program::Raildesk, &words, &mut folder)?;
-        let line = format!(in rt.alloc(); "cannot read {file}\n")?;
-        assert!(rt; out.written() == line.as_bytes());
-        assert!(rt; status == 5);
-    }
+fn a_file_that_is_refused_or_cannot_be_read_is_named(rt: HostRuntime) -> Result<(), Fail> {
+    expect_runs(&rt, rt.alloc(), NAMED)?;
     Ok(())
 }

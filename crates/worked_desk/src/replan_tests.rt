@@ -1,10 +1,10 @@
 //! The rest of a disturbed day that is planned at the desk.
 
-use crate::desk::{Program, expect_over, folder_with, said};
+use crate::desk::{Program, Run, ample_sink, expect_runs, expect_written, folder_with, status_of};
 use rail_base::NoMemory;
-use rail_io::MemoryFolder;
+use rail_io::MemorySink;
 use sample_days::{TURN, Texts};
-use std::alloc::Global;
+use std::alloc::{AllocError, Global};
 use std::process::Abort;
 use std::test::Fail;
 
@@ -15,62 +15,38 @@ const TWO_UNITS: &[u8] = b"trip,units\nT1,0 1\nT2,1 0\n";
 /// No trip is cancelled.
 const NONE: &[u8] = b"trip\n";
 
-/// The folder `day` with the day of two trips, a plan of it and a table of cancelled trips.
-fn folder_of(
-    rt: &impl Abort,
-    alloc: Global,
-    plan: &[u8],
-    cancelled: &[u8],
-    failing: &[u64],
-) -> Result<MemoryFolder, NoMemory> {
-    disturbed(rt, alloc, &TURN, plan, cancelled, failing)
-}
-
-/// The same with another day.
-fn disturbed(
-    rt: &impl Abort,
-    alloc: Global,
-    texts: &Texts<'_>,
-    plan: &[u8],
-    cancelled: &[u8],
-    failing: &[u64],
-) -> Result<MemoryFolder, NoMemory> {
-    let more = [("day/plan.csv", plan), ("day/cancelled.csv", cancelled)];
-    folder_with(rt, alloc, texts, &more, failing)
-}
-
-/// A plan, the trips that are cancelled, the words after the folder, the status, and what is written.
-type Row = (
-    &'static [u8],
-    &'static [u8],
-    &'static [&'static str],
-    u8,
-    &'static str,
-);
+/// The rest of the day of two trips that is planned after half past eight.
+const REPLANNED: Run<'static> = Run {
+    texts: TURN,
+    more: &[("day/plan.csv", TWO_UNITS), ("day/cancelled.csv", NONE)],
+    failing: &[],
+    words: &["replan", "day", "08:30"],
+    status: 3,
+    document: "",
+};
 
 /// The rest of days that is planned, or not.
-const PLANNED: &[Row] = &[
+const PLANNED: &[Run<'static>] = &[
     // A changed trip costs more than the second unit saves; or it doesn't, and both trips change.
-    (
-        ONE_UNIT,
-        NONE,
-        &["replan", "day", "07:00", "--change", "2000"],
-        0,
-        "replan optimal 1060 changes 0\nrun 0 0\nrun 1 0\nend\n",
-    ),
-    (
-        ONE_UNIT,
-        NONE,
-        &["replan", "day", "07:00", "--change", "100"],
-        0,
-        "replan optimal 320 changes 2\nrun 0 0 1\nrun 1 1 0\nend\n",
-    ),
+    Run {
+        more: &[("day/plan.csv", ONE_UNIT), ("day/cancelled.csv", NONE)],
+        words: &["replan", "day", "07:00", "--change", "2000"],
+        status: 0,
+        document: "replan optimal 1060 changes 0\nrun 0 0\nrun 1 0\nend\n",
+        ..REPLANNED
+    },
+    Run {
+        more: &[("day/plan.csv", ONE_UNIT), ("day/cancelled.csv", NONE)],
+        words: &["replan", "day", "07:00", "--change", "100"],
+        status: 0,
+        document: "replan optimal 320 changes 2\nrun 0 0 1\nrun 1 1 0\nend\n",
+        ..REPLANNED
+    },
     // With one of them uncoupled at Y the price would be 290, but both are wanted at X: without branchings and advice
     // that is the bound. The improver finds the plan at once, and a little later that none is better.
-    (
-        ONE_UNIT,
-        NONE,
-        &[
+    Run {
+        more: &[("day/plan.csv", ONE_UNIT), ("day/cancelled.csv", NONE)],
+        words: &[
             "replan",
             "day",
             "7:00",
@@ -78,13 +54,13 @@ const PLANNED: &[Row] = &[
             "--nodes=0",
             "--rounds=0",
         ],
-        4,
-        "replan bounded 290\nbranchings 0\ntree\ncost 290 0\nend\n",
-    ),
-    (
-        ONE_UNIT,
-        NONE,
-        &[
+        status: 4,
+        document: "replan bounded 290\nbranchings 0\ntree\ncost 290 0\nend\n",
+        ..REPLANNED
+    },
+    Run {
+        more: &[("day/plan.csv", ONE_UNIT), ("day/cancelled.csv", NONE)],
+        words: &[
             "replan",
             "day",
             "7:00",
@@ -93,13 +69,13 @@ const PLANNED: &[Row] = &[
             "--rounds=0",
             "--evaluations=1",
         ],
-        4,
-        "replan bounded 290 plan 320 changes 2\nrun 0 0 1\nrun 1 1 0\nbranchings 0\ntree\ncost 290 0\nend\n",
-    ),
-    (
-        ONE_UNIT,
-        NONE,
-        &[
+        status: 4,
+        document: "replan bounded 290 plan 320 changes 2\nrun 0 0 1\nrun 1 1 0\nbranchings 0\ntree\ncost 290 0\nend\n",
+        ..REPLANNED
+    },
+    Run {
+        more: &[("day/plan.csv", ONE_UNIT), ("day/cancelled.csv", NONE)],
+        words: &[
             "replan",
             "day",
             "7:00",
@@ -108,80 +84,101 @@ const PLANNED: &[Row] = &[
             "--rounds=0",
             "--evaluations=500",
         ],
-        0,
-        "replan optimal 320 changes 2\nrun 0 0 1\nrun 1 1 0\nend\n",
-    ),
+        status: 0,
+        document: "replan optimal 320 changes 2\nrun 0 0 1\nrun 1 1 0\nend\n",
+        ..REPLANNED
+    },
     // So does advice.
-    (
-        ONE_UNIT,
-        NONE,
-        &["replan", "day", "07:00", "--change", "100", "--nodes", "0"],
-        0,
-        "replan optimal 320 changes 2\nrun 0 0 1\nrun 1 1 0\nend\n",
-    ),
+    Run {
+        more: &[("day/plan.csv", ONE_UNIT), ("day/cancelled.csv", NONE)],
+        words: &["replan", "day", "07:00", "--change", "100", "--nodes", "0"],
+        status: 0,
+        document: "replan optimal 320 changes 2\nrun 0 0 1\nrun 1 1 0\nend\n",
+        ..REPLANNED
+    },
     // The first trip has left, with both units.
-    (
-        TWO_UNITS,
-        NONE,
-        &["replan", "day", "08:30"],
-        0,
-        "replan optimal 120 changes 0\nrun 0 0 1\nrun 1 1 0\nend\n",
-    ),
+    Run {
+        more: &[("day/plan.csv", TWO_UNITS), ("day/cancelled.csv", NONE)],
+        words: &["replan", "day", "08:30"],
+        status: 0,
+        document: "replan optimal 120 changes 0\nrun 0 0 1\nrun 1 1 0\nend\n",
+        ..REPLANNED
+    },
     // They can't come back without the second.
-    (
-        TWO_UNITS,
-        b"trip\nT2\n",
-        &["replan", "day", "08:30"],
-        1,
-        "replan infeasible\nend\n",
-    ),
+    Run {
+        more: &[
+            ("day/plan.csv", TWO_UNITS),
+            ("day/cancelled.csv", b"trip\nT2\n"),
+        ],
+        words: &["replan", "day", "08:30"],
+        status: 1,
+        document: "replan infeasible\nend\n",
+        ..REPLANNED
+    },
     // A trip that has left can't be cancelled.
-    (
-        TWO_UNITS,
-        b"trip\nT1\n",
-        &["replan", "day", "08:30"],
-        3,
-        "refused cancelled.csv\n",
-    ),
+    Run {
+        more: &[
+            ("day/plan.csv", TWO_UNITS),
+            ("day/cancelled.csv", b"trip\nT1\n"),
+        ],
+        words: &["replan", "day", "08:30"],
+        status: 3,
+        document: "refused cancelled.csv\n",
+        ..REPLANNED
+    },
+];
+
+/// Plans that are answered before the table of cancelled trips, which would be refused; and files that can't be read,
+/// and are named.
+const ANSWERED: &[Run<'static>] = &[
+    Run {
+        more: &[("day/plan.csv", b"trip\n"), ("day/cancelled.csv", b"")],
+        status: 3,
+        document: "refused plan.csv\n",
+        ..REPLANNED
+    },
+    Run {
+        more: &[
+            ("day/plan.csv", b"trip,units\nT3,0\n"),
+            ("day/cancelled.csv", b""),
+        ],
+        status: 3,
+        document: "refused plan.csv\n",
+        ..REPLANNED
+    },
+    Run {
+        more: &[
+            ("day/plan.csv", b"trip,units\nT1,\nT2,\n"),
+            ("day/cancelled.csv", b""),
+        ],
+        status: 1,
+        document: "stops\n",
+        ..REPLANNED
+    },
+    Run {
+        failing: &[10],
+        status: 5,
+        document: "cannot read weights.csv\n",
+        ..REPLANNED
+    },
+    Run {
+        failing: &[12],
+        status: 5,
+        document: "cannot read plan.csv\n",
+        ..REPLANNED
+    },
+    Run {
+        failing: &[14],
+        status: 5,
+        document: "cannot read cancelled.csv\n",
+        ..REPLANNED
+    },
 ];
 
 #[test]
 fn the_rest_of_a_day_is_planned(rt: HostRuntime) -> Result<(), Fail> {
-    for (plan, cancelled, words, status, document) in PLANNED {
-        let mut folder = folder_of(&rt, rt.alloc(), *plan, *cancelled, &[])?;
-        expect_over(&rt, rt.alloc(), &mut folder, *words, *status, *document)?;
-    }
-    Ok(())
-}
-
-#[test]
-fn the_plan_is_answered_before_cancelled_trips(rt: HostRuntime) -> Result<(), Fail> {
-    let rows: [(&[u8], u8, &str); 3] = [
-        (b"trip\n", 3, "refused plan.csv\n"),
-        (b"trip,units\nT3,0\n", 3, "refused plan.csv\n"),
-        (b"trip,units\nT1,\nT2,\n", 1, "stops\n"),
-    ];
-    for (plan, status, document) in &rows {
-        // The table of cancelled trips would be refused.
-        let mut folder = folder_of(&rt, rt.alloc(), *plan, b"", &[])?;
-        let words = ["replan", "day", "08:30"];
-        expect_over(&rt, rt.alloc(), &mut folder, &words, *status, *document)?;
-    }
-    Ok(())
-}
-
-#[test]
-fn a_file_that_cannot_be_read_is_named(rt: HostRuntime) -> Result<(), Fail> {
-    let rows: [(u64, &str); 3] = [
-        (10, "cannot read weights.csv\n"),
-        (12, "cannot read plan.csv\n"),
-        (14, "cannot read cancelled.csv\n"),
-    ];
-    for (read, document) in &rows {
-        let mut folder = folder_of(&rt, rt.alloc(), TWO_UNITS, NONE, &[*read])?;
-        let words = ["replan", "day", "08:30"];
-        expect_over(&rt, rt.alloc(), &mut folder, &words, 5, *document)?;
-    }
+    expect_runs(&rt, rt.alloc(), PLANNED)?;
+    expect_runs(&rt, rt.alloc(), ANSWERED)?;
     Ok(())
 }
 
@@ -261,49 +258,86 @@ fn name_of(number: &str) -> &'static str {
     }
 }
 
+/// Adds a word of a run, of which so many words go before.
+fn add_word(table: &mut String, before: u32, word: &str) -> Result<(), AllocError> {
+    let mark = match before {
+        0 => "",
+        1 => ",",
+        _ => " ",
+    };
+    table.push_str(mark)?;
+    let field = if before == 0 { name_of(word) } else { word };
+    table.push_str(field)
+}
+
+/// Adds the row of a run.
+fn add_run(table: &mut String, run: &str) -> Result<(), AllocError> {
+    let mut said = 0_u32;
+    for word in run.split(' ') {
+        add_word(table, said, word)?;
+        said = said.saturating_add(1);
+    }
+    table.push_str("\n")
+}
+
 /// The table of the plan that a document prints.
-fn plan_printed(alloc: Global, document: &str) -> Result<String, NoMemory> {
+fn plan_printed(alloc: Global, document: &str) -> Result<String, AllocError> {
     let mut table = String::from_str(alloc, "trip,units\n")?;
     for line in document.lines() {
-        let Some(run) = line.strip_prefix("run ") else {
-            continue;
-        };
-        let mut said = 0_u32;
-        for word in run.split(' ') {
-            match said {
-                0 => table.push_str(name_of(word))?,
-                1 => {
-                    table.push_str(",")?;
-                    table.push_str(word)?;
-                }
-                _ => {
-                    table.push_str(" ")?;
-                    table.push_str(word)?;
-                }
-            }
-            said = said.saturating_add(1);
+        if let Some(run) = line.strip_prefix("run ") {
+            add_run(&mut table, run)?;
         }
-        table.push_str("\n")?;
     }
     Ok(table)
 }
 
+/// Writes what the desk says of a day with a plan and cancelled trips.
+fn replan(rt: &impl Abort, alloc: Global, row: &Ran, out: &mut MemorySink) -> Result<(), NoMemory> {
+    let (texts, plan, cancelled, words, _, _) = row;
+    let more = [("day/plan.csv", *plan), ("day/cancelled.csv", *cancelled)];
+    let mut folder = folder_with(rt, alloc, texts, &more, &[])?;
+    status_of(rt, alloc, Program::Raildesk, *words, &mut folder, out)?;
+    Ok(())
+}
+
+/// The words that run the plan of a day.
+const SIMULATE: &[&str] = &["simulate", "day"];
+
+/// Asserts what comes of a plan of a day that is run.
+fn expect_ran(
+    rt: &impl Abort,
+    alloc: Global,
+    texts: &Texts<'_>,
+    plan: &str,
+    ran: &str,
+) -> Result<(), NoMemory> {
+    let more = [("day/plan.csv", plan.as_bytes())];
+    let mut folder = folder_with(rt, alloc, texts, &more, &[])?;
+    let run = (Program::Railplan, SIMULATE);
+    expect_written(rt, alloc, &mut folder, run, 0, ran.as_bytes())
+}
+
+/// Asserts what comes of the plan in a document that is run in a later day.
+fn expect_printed(
+    rt: &impl Abort,
+    alloc: Global,
+    row: &Ran,
+    document: &[u8],
+) -> Result<(), NoMemory> {
+    let Ok(document) = str::from_utf8(document) else {
+        panic!(rt; "what is written is a text");
+    };
+    let table = plan_printed(alloc, document)?;
+    let (_, _, _, _, later, ran) = row;
+    expect_ran(rt, alloc, later, table.as_str(), *ran)
+}
+
 #[test]
 fn what_is_printed_runs_in_the_later_day(rt: HostRuntime) -> Result<(), Fail> {
-    let alloc = rt.alloc();
-    for (texts, plan, cancelled, words, later, ran) in RAN {
-        let mut folder = disturbed(&rt, alloc, texts, *plan, *cancelled, &[])?;
-        let (_, out) = said(&rt, alloc, Program::Raildesk, *words, &mut folder)?;
-        let Ok(document) = str::from_utf8(out.written()) else {
-            panic!(&rt; "what is written is a text");
-        };
-        let table = plan_printed(alloc, document)?;
-        let more = [("day/plan.csv", table.as_bytes())];
-        let mut folder = folder_with(&rt, alloc, later, &more, &[])?;
-        let words = ["simulate", "day"];
-        let (status, out) = said(&rt, alloc, Program::Railplan, &words, &mut folder)?;
-        assert!(&rt; out.written() == ran.as_bytes());
-        assert!(&rt; status == 0);
+    for row in RAN {
+        let mut out = ample_sink(rt.alloc())?;
+        replan(&rt, rt.alloc(), row, &mut out)?;
+        expect_printed(&rt, rt.alloc(), row, out.written())?;
     }
     Ok(())
 }

@@ -1,11 +1,7 @@
 //! Units that are swapped at the desk.
 
-use crate::desk::{expect_over, folder_with};
-use rail_base::NoMemory;
-use rail_io::MemoryFolder;
+use crate::desk::{Run, expect_runs};
 use sample_days::{TURN, Texts};
-use std::alloc::Global;
-use std::process::Abort;
 use std::test::Fail;
 
 /// One trip from X to Y with one of the two units that stand at X.
@@ -19,96 +15,153 @@ const ONE_TRIP: Texts<'static> = Texts {
 /// The plan in which it is the first of them.
 const FIRST_LEAVES: &[u8] = b"trip,units\nT1,0\n";
 
-/// The folder `day` with a day, its plan and the table of urgent units.
-fn folder_of(
-    rt: &impl Abort,
-    alloc: Global,
-    texts: &Texts<'_>,
-    plan: &[u8],
-    urgent: &[u8],
-) -> Result<MemoryFolder, NoMemory> {
-    let more = [("day/plan.csv", plan), ("day/urgent.csv", urgent)];
-    folder_with(rt, alloc, texts, &more, &[])
-}
+/// A run with this plan, whose table of urgent units is refused.
+const REFUSED: Run<'static> = Run {
+    texts: ONE_TRIP,
+    more: &[("day/plan.csv", FIRST_LEAVES), ("day/urgent.csv", b"")],
+    failing: &[],
+    words: &["urgent", "day"],
+    status: 3,
+    document: "refused urgent.csv\n",
+};
 
-/// Asserts the status of `urgent` over a folder, and all that is written.
-fn expect(
-    rt: &impl Abort,
-    alloc: Global,
-    folder: &mut MemoryFolder,
-    status: u8,
-    document: &str,
-) -> Result<(), NoMemory> {
-    expect_over(rt, alloc, folder, &["urgent", "day"], status, document)
-}
+/// As many urgent units are brought as can be.
+const BROUGHT: &[Run<'static>] = &[
+    // The other unit takes the trip. No moment is in the cut: there is one urgent unit.
+    Run {
+        more: &[
+            ("day/plan.csv", FIRST_LEAVES),
+            ("day/urgent.csv", b"unit,depot\n1,Y\n"),
+        ],
+        status: 0,
+        document: "urgent 1\nrun 0 1\nend\n",
+        ..REFUSED
+    },
+    // One trip leaves X, so that one of two comes to Y: the cut has all moments of X.
+    Run {
+        more: &[
+            ("day/plan.csv", FIRST_LEAVES),
+            ("day/urgent.csv", b"unit,depot\n0,Y\n1,Y\n"),
+        ],
+        status: 0,
+        document: "urgent 1\nrun 0 0\nnear 0 0\nnear 0 1\nnear 0 2\nend\n",
+        ..REFUSED
+    },
+];
 
-#[test]
-fn as_many_urgent_units_as_can_be_are_brought(rt: HostRuntime) -> Result<(), Fail> {
-    let rows: [(&[u8], &str); 2] = [
-        // The other unit takes the trip. No moment is in the cut: there is one urgent unit.
-        (b"unit,depot\n1,Y\n", "urgent 1\nrun 0 1\nend\n"),
-        // One trip leaves X, so that one of two comes to Y: the cut has all moments of X.
-        (
-            b"unit,depot\n0,Y\n1,Y\n",
-            "urgent 1\nrun 0 0\nnear 0 0\nnear 0 1\nnear 0 2\nend\n",
-        ),
-    ];
-    for (urgent, document) in &rows {
-        let mut folder = folder_of(&rt, rt.alloc(), &ONE_TRIP, FIRST_LEAVES, *urgent)?;
-        expect(&rt, rt.alloc(), &mut folder, 0, *document)?;
-    }
-    Ok(())
-}
+/// Tables of urgent units that are refused.
+const WRONG_TABLES: &[Run<'static>] = &[
+    REFUSED,
+    Run {
+        more: &[
+            ("day/plan.csv", FIRST_LEAVES),
+            ("day/urgent.csv", b"depot,unit\n1,Y\n"),
+        ],
+        ..REFUSED
+    },
+    Run {
+        more: &[
+            ("day/plan.csv", FIRST_LEAVES),
+            ("day/urgent.csv", b"unit,depot\n"),
+        ],
+        ..REFUSED
+    },
+    Run {
+        more: &[
+            ("day/plan.csv", FIRST_LEAVES),
+            ("day/urgent.csv", b"unit,depot\n2,Y\n"),
+        ],
+        ..REFUSED
+    },
+    Run {
+        more: &[
+            ("day/plan.csv", FIRST_LEAVES),
+            ("day/urgent.csv", b"unit,depot\n0,Y\n1,X\n"),
+        ],
+        ..REFUSED
+    },
+];
 
-#[test]
-fn a_table_of_urgent_units_is_refused(rt: HostRuntime) -> Result<(), Fail> {
-    let wrong: [&[u8]; 5] = [
-        b"",
-        b"depot,unit\n1,Y\n",
-        b"unit,depot\n",
-        b"unit,depot\n2,Y\n",
-        b"unit,depot\n0,Y\n1,X\n",
-    ];
-    for urgent in &wrong {
-        let mut folder = folder_of(&rt, rt.alloc(), &ONE_TRIP, FIRST_LEAVES, *urgent)?;
-        expect(&rt, rt.alloc(), &mut folder, 3, "refused urgent.csv\n")?;
-    }
-    Ok(())
-}
+/// Plans that are answered first: the table of urgent units would be refused.
+const PLANS: &[Run<'static>] = &[
+    // It is no table, or no plan of the day.
+    Run {
+        more: &[("day/plan.csv", b"trip\n"), ("day/urgent.csv", b"")],
+        status: 3,
+        document: "refused plan.csv\n",
+        ..REFUSED
+    },
+    Run {
+        more: &[
+            ("day/plan.csv", b"trip,units\nT2,0\n"),
+            ("day/urgent.csv", b""),
+        ],
+        status: 3,
+        document: "refused plan.csv\n",
+        ..REFUSED
+    },
+    // It doesn't run: the trip has no units, or too few stay at X.
+    Run {
+        more: &[
+            ("day/plan.csv", b"trip,units\nT1,\n"),
+            ("day/urgent.csv", b""),
+        ],
+        status: 1,
+        document: "stops\n",
+        ..REFUSED
+    },
+    Run {
+        more: &[
+            ("day/plan.csv", b"trip,units\nT1,0 1\n"),
+            ("day/urgent.csv", b""),
+        ],
+        status: 1,
+        document: "stops\n",
+        ..REFUSED
+    },
+];
 
-#[test]
-fn the_plan_is_answered_first(rt: HostRuntime) -> Result<(), Fail> {
-    let rows: [(&[u8], u8, &str); 4] = [
-        // It is no table, or no plan of the day.
-        (b"trip\n", 3, "refused plan.csv\n"),
-        (b"trip,units\nT2,0\n", 3, "refused plan.csv\n"),
-        // It doesn't run: the trip has no units, or too few stay at X.
-        (b"trip,units\nT1,\n", 1, "stops\n"),
-        (b"trip,units\nT1,0 1\n", 1, "stops\n"),
-    ];
-    for (plan, status, document) in &rows {
-        // The table of urgent units would be refused.
-        let mut folder = folder_of(&rt, rt.alloc(), &ONE_TRIP, *plan, b"")?;
-        expect(&rt, rt.alloc(), &mut folder, *status, *document)?;
-    }
-    Ok(())
-}
-
-#[test]
-fn a_file_that_cannot_be_read_is_named(rt: HostRuntime) -> Result<(), Fail> {
-    let rows: [(u64, &str); 4] = [
-        (10, "cannot read weights.csv\n"),
-        (12, "cannot read plan.csv\n"),
-        (14, "cannot read urgent.csv\n"),
-        (15, "cannot read urgent.csv\n"),
-    ];
-    let more: [(&str, &[u8]); 2] = [
+/// A run in which a read fails.
+const UNREAD: Run<'static> = Run {
+    more: &[
         ("day/plan.csv", FIRST_LEAVES),
         ("day/urgent.csv", b"unit,depot\n1,Y\n"),
-    ];
-    for (read, document) in &rows {
-        let mut folder = folder_with(&rt, rt.alloc(), &ONE_TRIP, &more, &[*read])?;
-        expect(&rt, rt.alloc(), &mut folder, 5, *document)?;
+    ],
+    status: 5,
+    ..REFUSED
+};
+
+/// A file that can't be read is named.
+const FAILED_READS: &[Run<'static>] = &[
+    Run {
+        failing: &[10],
+        document: "cannot read weights.csv\n",
+        ..UNREAD
+    },
+    Run {
+        failing: &[12],
+        document: "cannot read plan.csv\n",
+        ..UNREAD
+    },
+    Run {
+        failing: &[14],
+        document: "cannot read urgent.csv\n",
+        ..UNREAD
+    },
+    Run {
+        failing: &[15],
+        document: "cannot read urgent.csv\n",
+        ..UNREAD
+    },
+];
+
+/// All these runs.
+const RUNS: &[&[Run<'static>]] = &[BROUGHT, WRONG_TABLES, PLANS, FAILED_READS];
+
+#[test]
+fn urgent_units_are_brought_or_a_file_is_named(rt: HostRuntime) -> Result<(), Fail> {
+    for runs in RUNS {
+        expect_runs(&rt, rt.alloc(), *runs)?;
     }
     Ok(())
 }

@@ -1,6 +1,6 @@
 //! Weeks that are planned at the desk.
 
-use crate::desk::{Program, expect_over, said};
+use crate::desk::{expect_front, expect_over};
 use rail_base::NoMemory;
 use rail_base::name::is_name;
 use rail_io::{MemoryFile, MemoryFolder};
@@ -62,6 +62,20 @@ fn folder_of(
     MemoryFolder::new(alloc, files, failing.to_vec(alloc)?)
 }
 
+/// Adds a table of the day of a number.
+fn add_table(
+    rt: &impl Abort,
+    alloc: Global,
+    files: &mut Vec<MemoryFile>,
+    number: usize,
+    name: &str,
+    bytes: &[u8],
+) -> Result<(), NoMemory> {
+    let path = format!(in alloc; "week/{number}/{name}.csv")?;
+    assert!(rt; is_name(path.as_bytes()));
+    Ok(files.push(MemoryFile::new(alloc, path.as_str(), bytes)?)?)
+}
+
 /// Adds the files of a day, of which so many days go before.
 fn add_day(
     rt: &impl Abort,
@@ -80,9 +94,7 @@ fn add_day(
     ];
     let number = before.saturating_add(1);
     for (name, bytes) in &tables {
-        let path = format!(in alloc; "week/{number}/{name}.csv")?;
-        assert!(rt; is_name(path.as_bytes()));
-        files.push(MemoryFile::new(alloc, path.as_str(), *bytes)?)?;
+        add_table(rt, alloc, files, number, *name, *bytes)?;
     }
     Ok(())
 }
@@ -185,15 +197,18 @@ const CASES: &[Case<'static>] = &[
     ),
 ];
 
+/// Asserts what comes of a week.
+fn expect_case(rt: &impl Abort, alloc: Global, case: &Case<'_>) -> Result<(), NoMemory> {
+    let (days, count, nodes, failing, status, begins) = case;
+    let mut folder = folder_of(rt, alloc, *days, *failing)?;
+    let words = ["week", "week", *count, "--rounds=0", "--nodes", *nodes];
+    expect_front(rt, alloc, &mut folder, &words, *status, *begins)
+}
+
 #[test]
 fn weeks_are_planned_or_refused(rt: HostRuntime) -> Result<(), Fail> {
-    let alloc = rt.alloc();
-    for (days, count, nodes, failing, status, begins) in CASES {
-        let mut folder = folder_of(&rt, alloc, *days, *failing)?;
-        let words = ["week", "week", *count, "--rounds=0", "--nodes", *nodes];
-        let (found, out) = said(&rt, alloc, Program::Raildesk, &words, &mut folder)?;
-        assert!(rt; out.written().starts_with(begins.as_bytes()), "{begins}");
-        assert!(rt; found == *status, "{begins}");
+    for case in CASES {
+        expect_case(&rt, rt.alloc(), case)?;
     }
     Ok(())
 }
@@ -251,12 +266,23 @@ const WHOLE: &[Whole<'static>] = &[
     ),
 ];
 
+/// Asserts all that is written of a week.
+fn expect_whole(
+    rt: &impl Abort,
+    alloc: Global,
+    days: &[Texts<'_>],
+    words: &[&str],
+    status: u8,
+    document: &str,
+) -> Result<(), NoMemory> {
+    let mut folder = folder_of(rt, alloc, days, &[])?;
+    expect_over(rt, alloc, &mut folder, words, status, document)
+}
+
 #[test]
 fn weeks_are_written_whole(rt: HostRuntime) -> Result<(), Fail> {
-    let alloc = rt.alloc();
     for (days, words, status, document) in WHOLE {
-        let mut folder = folder_of(&rt, alloc, *days, &[])?;
-        expect_over(&rt, alloc, &mut folder, *words, *status, *document)?;
+        expect_whole(&rt, rt.alloc(), *days, *words, *status, *document)?;
     }
     Ok(())
 }
@@ -272,11 +298,13 @@ const OTHER_WORDS: &[&[&str]] = &[
     &["week", "week", "2", "--progress"],
 ];
 
+/// A week of two days.
+const TWO_DAYS: &[Texts<'static>] = &[TURN, TURN];
+
 #[test]
 fn other_words_plan_no_week(rt: HostRuntime) -> Result<(), Fail> {
     for words in OTHER_WORDS {
-        let mut folder = folder_of(&rt, rt.alloc(), &[TURN, TURN], &[])?;
-        expect_over(&rt, rt.alloc(), &mut folder, *words, 2, "usage\n")?;
+        expect_whole(&rt, rt.alloc(), TWO_DAYS, *words, 2, "usage\n")?;
     }
     Ok(())
 }
