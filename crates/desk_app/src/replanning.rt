@@ -10,6 +10,8 @@ ghost use Rattle.branch_tree.specs.Trees.{branchings_of};
 ghost use Rattle.search.specs.Questions.{AreAsked, AreTheSame, in_rounds};
 ghost use Rattle.answer_check.specs.ProvedTrees.{open_leaves};
 ghost use Rattle.cancellations.specs.Cancellations.{AreCancellable};
+ghost use Rattle.transitions.specs.Edges.{AreGraphs};
+ghost use Rattle.replan.specs.Disturbances.{later_day};
 ghost use Rattle.replan.specs.Promises.{IsReplanned, as_answer};
 ghost use Rattle.desk_app.specs.Outcomes.{is_unread};
 ghost use Rattle.desk_app.specs.ReplanOutcomes.{IsCancelledOutcome, IsPlannedRest, IsReplanOutcome, IsRestOutcome};
@@ -29,7 +31,7 @@ use improvers::NoImprover;
 use rail_base::NoMemory;
 use rail_base::limits::MAX_TABLE_BYTES;
 use rail_io::{FileRefusal, Folder};
-use replan::{Disturbance, ReplanRefusal, Replanned, improved_replan, rest_of};
+use replan::{Disturbance, ReplanRefusal, Replanned, RestOfDay, improved_replan, rest_of};
 use std::alloc::Global;
 use transitions::Graphs;
 
@@ -302,21 +304,50 @@ fn searched(
         Err(ReplanRefusal::NoMemory) => return Err(NoMemory),
     };
     let graphs = Graphs::build(alloc, rest.instance())?;
+    searched_rest(alloc, &rest, &graphs, replanning, advisors)
+}
+
+/// The answer to the rest of a disturbed day of which the edges are known. The error is want of memory.
+#[tactic(auto, using(search::proofs::Asking::are_unasked))]
+fn searched_rest(
+    alloc: Global,
+    rest: &RestOfDay<'_>,
+    graphs: &Graphs,
+    replanning: &Replanning,
+    advisors: &mut Vec<Box<dyn Advisor>>,
+) -> Result<Replanned, NoMemory>
+    // The edges, the grants, and the advisors before.
+    requires graphs { AreGraphs (later_day rest.now) graphs.now }
+    requires nodes { replanning.now.nodes ≤ MAX_BRANCHINGS }
+    requires rounds { replanning.now.rounds ≤ MAX_ROUNDS }
+    requires asked { All (λ advisor. asked advisor ≤ 2 ^ 62) advisors.old.items }
+
+    // The answer.
+    ensures promise { IfOk result (IsReplanned rest.now replanning.now.nodes) }
+
+    // The advisors.
+    ensures advisors { AreTheSame advisors.old.items advisors.new.items identity }
+    ensures asked { AreAsked advisors.old.items advisors.new.items asked has_quit 0
+        (replanning.now.rounds * (2 * replanning.now.nodes + 1)) }
+    ensures counted { IfOk result (λ replanned. AreAsked advisors.old.items advisors.new.items asked has_quit
+        (in_rounds replanning.now.rounds (branchings_of replanned.tree + open_leaves (as_answer replanned)))
+        (replanning.now.rounds * (2 * branchings_of replanned.tree + 1))) }
+{
     let allowed = Allowed {
         branchings: replanning.nodes,
         rounds: replanning.rounds,
     };
     let evaluations = replanning.evaluations;
     if evaluations == 0 {
-        return improved_replan(alloc, &rest, &graphs, allowed, &mut NoImprover, advisors);
+        return improved_replan(alloc, rest, graphs, allowed, &mut NoImprover, advisors);
     }
     let changes = rest.changes();
     let mut improver = DayImprover::with_changes(
         alloc,
         rest.instance(),
-        &graphs,
+        graphs,
         changes,
         evaluations,
     )?;
-    improved_replan(alloc, &rest, &graphs, allowed, &mut improver, advisors)
+    improved_replan(alloc, rest, graphs, allowed, &mut improver, advisors)
 }

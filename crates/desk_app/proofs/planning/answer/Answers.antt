@@ -5,11 +5,3 @@ use Rattle.desk_app.proofs.planning.answer.Goals as goal
 pub returns-in_err-graphs-clause-asked : goal.returns-in_err-graphs-clause-asked
 returns-in_err-graphs-clause-asked g c =
     are_unasked _ _ (c.args.planning.now.rounds * (2 * c.args.planning.now.nodes + 1)) c.args.advisors.now.items
-
-pub returns-in_err-improver-clause-asked : goal.returns-in_err-improver-clause-asked
-returns-in_err-improver-clause-asked g c =
-    are_unasked _ _ (c.args.planning.now.rounds * (2 * c.args.planning.now.nodes + 1)) c.args.advisors.now.items
-
-pub returns-in_err-improver-2-clause-asked : goal.returns-in_err-improver-2-clause-asked
-returns-in_err-improver-2-clause-asked g c =
-    are_unasked _ _ (c.args.planning.now.rounds * (2 * c.args.planning.now.nodes + 1)) c.args.advisors.now.items
