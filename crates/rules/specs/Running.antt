@@ -2,8 +2,7 @@
 use Rattle.std.specs.Prelude.{ℕ, ◌≡◌, ◌<◌, ◌≤◌, ◌⊎◌, List, [], ◌∷◌, length, map, true, ◌==◌, ◌&&◌, IsTrue, slice_get}
 use Rattle.std.specs.Prelude.{Some, ⊤, ◌↔◌}
 use Rattle.rules.specs.declared.records.Link.{Link}
-use Rattle.rules.specs.Day.{Day, Units, leaves, from_of, to_of, type_of, unit_count, stock_units}
-use Rattle.rules.specs.Day.{wanted_of, ready_at}
+use Rattle.rules.specs.Day.{Day, Units, leaves, from_of, to_of, type_of, unit_count, stock_units, wanted_of, ready_at}
 use Rattle.rules.specs.Admissible.{is_admissible}
 use Rattle.rules.specs.Links.{list_of, link_holds, kept_with, given_with, taken_with}
 use Rattle.rules.specs.Duties.{duty, last_place_of}

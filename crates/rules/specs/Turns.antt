@@ -2,8 +2,8 @@
 -- it may couple units. Which places of the two lists stay is read off the types; the rule is that the same units stand
 -- there, and that no more are taken off and put on than may be.
 -- The rule is said twice: of lists, by `IsKeptList` and `AreParts`, and by numbers, by `kept_length` and `turn_parts`.
--- `RunsOf` reads `turn_parts`. That both say the same of all lists is proved by two laws of timetable: KeepTheLongest, of
--- `kept_length`, and HaveParts, of `turn_parts`.
+-- `RunsOf` reads `turn_parts`. That both say the same of all lists is proved by two laws of timetable:
+-- KeepTheLongest, of `kept_length`, and HaveParts, of `turn_parts`.
 use Rattle.std.specs.Prelude.{ℕ, zero, suc, ◌-◌, ◌≡◌, ◌≤◌, List, [], ◌++◌, length, take, drop, map, Bool, ◌&&◌, ◌||◌}
 use Rattle.std.specs.Prelude.{◌==◌, if◌then◌else◌, nat_le, Option, Some, None, option_and_then, unwrap_or, MatchOption}
 use Rattle.std.specs.Prelude.{IsTrue}

@@ -1,5 +1,5 @@
 //! The rules of a day: what it has, and what a link names, keeps and shunts. Which plans run and what they cost is
-//! said by the pages of `specs/`, which are all that has to be believed.
+//! said by the pages of `specs/`, which have to be believed.
 #![tactic(auto)]
 
 pub mod heads;
