@@ -78,7 +78,7 @@ pub record RunsOf (units : Units) (day : Day) (plan : List (List ℕ)) : Type 0 
   pub links : (l : ℕ) (link : Link) → slice_get day.links l ≡ Some link → link_holds units.unit_type link plan ≡ true
   -- each unit begins the day at home
   pub homes : (u : ℕ) → u < units.count → BeginsAt day (units.home u) (duty day plan u)
-  -- each unit can go from one trip of its duty to the next; so no unit is on two trips at once
+  -- each unit can go from one trip of its duty to the next
   pub follows : (u : ℕ) → u < units.count → EachFollows (MayFollowOf units.unit_type day plan u) (duty day plan u)
   -- each station has, of each type, as many units at the end as are wanted
   pub balance : (s m : ℕ) → s < length day.stations → m < length day.types

@@ -7,8 +7,7 @@ use Rattle.rules.specs.Cost.{plan_cost_of, PlansOfUnitsCostAtLeast, NoPlanOfUnit
 use Rattle.rules.specs.Day.{Day, Units, stock_units}
 use Rattle.rules.specs.Running.{RunsOf}
 
--- whether an answer has a plan. Its runs are the plan as it writes it: the units of each trip, in order, and nothing
--- where it has none.
+-- whether an answer has a plan. Its runs are the plan as it writes it: the units of each trip, in order
 abbrev pub has_plan : Head → Bool
 has_plan (Optimal cost) = true
 has_plan Infeasible = false
