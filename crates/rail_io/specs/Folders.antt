@@ -18,7 +18,7 @@ pub record FolderState : Type 0 where
   pub may_fail : List ℕ → Bool
   -- a count of faults: a call that fails raises it, or finds it at a counter's last value, 2 ^ 64 - 1
   pub faults : ℕ
-  -- how many bytes were handed out, exactly so up to 2 ^ 63
+  -- how many bytes were handed out, exactly so up to 2 ^ 63 as long as no read failed
   pub taken : ℕ
   -- whether the count of faults is that of failed calls: each raises it by one, below its last value, and no other call
   -- changes it. It need not be

@@ -11,8 +11,8 @@ use std::rt::Files;
 use std::{fs, io};
 
 /// The files of the system, over the runtime that main is given. A path that is not absolute is taken from the folder
-/// that the program runs in. Each read opens the file of its path, seeks its place and reads there, so that a file that
-/// is replaced meanwhile is read as it stands at each read. Each error of the system raises the count of faults, which
+/// that the program runs in. Each read into some room opens the file of its path, seeks its place and reads there, so
+/// that a file that is replaced meanwhile is read as it stands at each read. Each error of the system raises the count of faults, which
 /// stays where it is once it is the greatest of its type. A contract sees the counts of faults and of bytes handed out.
 #[derive(Drop)]
 pub struct DiskFolder<'a, R: Files> {

@@ -15,10 +15,11 @@ pub struct Failed;
 pub trait Folder {
     /// What a contract says of the folder as it stands. Its field `holds` is what it holds, the bytes of each path, or
     /// `None` where it does not tell; `faults` is a count of faults, which a call that fails raises, or finds at a
-    /// counter's last value, 2^64 - 1; `taken` is how many bytes were handed out, exactly so up to 2^63. `may_fail`
-    /// says whether a read of a path may fail, and `counts_failed` whether the count of faults is that of failed calls:
-    /// each raises it by one, below its last value, and no other call changes it. The two counts never fall, and the
-    /// other fields never change. Where no more is known, `may_fail` is `λ _. true` and `counts_failed` is `false`.
+    /// counter's last value, 2^64 - 1; `taken` is how many bytes were handed out, exactly so up to 2^63 as long as no
+    /// read failed. `may_fail` says whether a read of a path may fail, and `counts_failed` whether the count of faults
+    /// is that of failed calls: each raises it by one, below its last value, and no other call changes it. The two
+    /// counts never fall, and the other fields never change. Where no more is known, `may_fail` is `λ _. true` and
+    /// `counts_failed` is `false`.
     ghost state: { Self → FolderState };
 
     /// Puts bytes of the path's file, from place `from` on, at the front of `into`, and answers how many. Where the
