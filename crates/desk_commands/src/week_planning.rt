@@ -13,8 +13,8 @@ pub struct WeekPlanning {
     pub nodes: u32,
     /// Rounds of advice at each node, 0 to 100.
     pub rounds: u8,
-    /// Evaluations of the bound that the improver may take at the root of each day, 0 to 100,000; it is not asked where
-    /// they are 0.
+    /// Evaluations of the bound that the improver may take at the root of each day, 0 to 100,000; with 0 it proposes
+    /// nothing.
     pub evaluations: u32,
 }
 
