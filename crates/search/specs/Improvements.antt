@@ -1,12 +1,14 @@
 -- What an improver is shown of a node, and what the improvements that it proposes make of the node and of the best
 -- solution.
-use Rattle.std.specs.Prelude.{ℕ, zero, suc, ◌≡◌, List, [], ◌∷◌, Bool, true, IsTrue, Option, Some, if◌then◌else◌}
+use Rattle.std.specs.Prelude.{ℕ, zero, suc, ◌≡◌, List, [], ◌∷◌, Bool, true, IsTrue, Option, Some, None}
+use Rattle.std.specs.Prelude.{if◌then◌else◌}
 use Rattle.branch_tree.specs.declared.multipliers.Entry.{Entry}
 use Rattle.branch_tree.specs.Bounds.{AreSlacks}
 use Rattle.branch_tree.specs.Claims.{CostedPicks, is_below}
 use Rattle.branch_tree.specs.Meanings.{DoFitFor, Meanings}
 use Rattle.branch_tree.specs.Regions.{are_in}
 use Rattle.improvers.specs.declared.improver.Improvement.{Improvement}
+use Rattle.improvers.specs.declared.improver.Incumbent.{Incumbent}
 use Rattle.improvers.specs.declared.improver.Seen.{Seen}
 use Rattle.search.specs.declared.work.Work.{Work}
 use Rattle.search.specs.NodesInWork.{IsConsidered, is_open_work, remembering}
@@ -62,8 +64,15 @@ AreImproved problem root (suc attempts) earlier best before after =
     (is_open_work middle work ≡ true) ×
     ((improvement : Improvement) × IsUsedUp problem root improvement middle best work after)
 
--- what is shown to an improver of a node: its region, what its kept evaluation gave, and the slacks of the kept picks
-pub record IsSeenOf (problem : Meanings) (number made : ℕ) (work : Work) (seen : Seen) : Type 0 where
+-- the best solution as it is shown to an improver, if there is one
+abbrev pub shown_plan : Option Incumbent → Option CostedPicks
+shown_plan None = None
+shown_plan (Some incumbent) = Some (record { cost = incumbent.cost.0; picks = incumbent.picks.now })
+
+-- what is shown to an improver of a node: its region, what its kept evaluation gave, the slacks of the kept picks, and
+-- the best solution
+pub record IsSeenOf (problem : Meanings) (number made : ℕ) (best : Option CostedPicks) (work : Work) (seen : Seen)
+    : Type 0 where
   pub node : seen.node ≡ number
   pub attempt : seen.attempt ≡ made
   pub region : seen.region.now ≡ work.region
@@ -71,4 +80,5 @@ pub record IsSeenOf (problem : Meanings) (number made : ℕ) (work : Work) (seen
   pub multipliers : seen.multipliers.now ≡ work.kept.multipliers
   pub picks : seen.picks.now ≡ work.kept.picks
   pub slacks : AreSlacks problem work.kept.picks seen.slacks.now
+  pub best : shown_plan seen.best ≡ best
   pub free_from : seen.free_from ≡ problem.free_from

@@ -4,7 +4,7 @@ ghost use Rattle.std.specs.Prelude.{◌≡◌, map, IfOk, OnOk};
 ghost use Rattle.branch_tree.specs.Bounds.{AreSlacks};
 ghost use Rattle.branch_tree.specs.Meanings.{DoFitFor};
 ghost use Rattle.branch_tree.specs.Sets.{size_of};
-ghost use Rattle.search.specs.Improvements.{AreTried, IsSeenOf, IsUsedUp};
+ghost use Rattle.search.specs.Improvements.{AreTried, IsSeenOf, IsUsedUp, shown_plan};
 ghost use Rattle.search.specs.NodeAdvice.{IsLookAt};
 ghost use Rattle.search.specs.Nodes.{IsSubregion};
 ghost use Rattle.search.specs.Conclusions.{plan_in};
@@ -117,7 +117,8 @@ impl Work {
         best: &'a Option<Best>,
     ) -> Seen<'a>
         requires { AreSlacks (R.meanings (R.problem problem.now)) self.now.kept.picks attempt.now.slacks }
-        ensures { IsSeenOf (R.meanings (R.problem problem.now)) attempt.now.node attempt.now.number self.now result }
+        ensures { IsSeenOf (R.meanings (R.problem problem.now)) attempt.now.node attempt.now.number (plan_in best.now)
+            self.now result }
     {
         Seen {
             node: attempt.node,
@@ -329,7 +330,9 @@ impl Work {
 }
 
 /// The best solution, as an improver sees it.
-fn incumbent(best: &Option<Best>) -> Option<Incumbent<'_>> {
+fn incumbent(best: &Option<Best>) -> Option<Incumbent<'_>>
+    ensures { shown_plan result ≡ plan_in best.now }
+{
     match best {
         Some(best) => Some(Incumbent {
             picks: &best.picks,
