@@ -3,7 +3,7 @@
 ghost use Rattle.std.specs.Prelude.{◌≤◌, length};
 
 use rail_base::limits::MAX_TABLE_BYTES;
-use rail_base::{Name, NoMemory};
+use rail_base::{Minute, Name, NoMemory};
 use rail_csv::{
     LinkRow, PlanRow, StationRow, StockRow, Table, TableRefusal, TripRow, TypeRow, WeightsRow,
     links, plan, stations, stock, trips, types, weights,
@@ -361,11 +361,22 @@ impl Line for StockRow {
 /// With minutes as numbers.
 impl Line for TripRow {
     fn write_line(&self, text: &mut String) -> Result<(), AllocError> {
-        let (name, from, to) = (self.name.as_str(), self.from.as_str(), self.to.as_str());
-        let (departure, arrival) = (self.departure.0, self.arrival.0);
-        write!(text, "{name} {from} {departure} {to} {arrival}")?;
-        write!(text, " {} {} {}\n", self.km, self.demand, self.first)
+        write_moment(text, &self.name, &self.from, self.departure)?;
+        let (to, arrival) = (self.to.as_str(), self.arrival.0);
+        write!(text, " {to} {arrival} {}", self.km)?;
+        write!(text, " {} {}\n", self.demand, self.first)
     }
+}
+
+/// Writes a trip, and where and when it departs.
+fn write_moment(
+    text: &mut String,
+    trip: &Name,
+    station: &Name,
+    minute: Minute,
+) -> Result<(), AllocError> {
+    let (trip, station) = (trip.as_str(), station.as_str());
+    write!(text, "{trip} {station} {}", minute.0)
 }
 
 /// With `-` for a trip that is not there.

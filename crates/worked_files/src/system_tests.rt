@@ -241,7 +241,13 @@ fn failing_disk_told(
         error,
         calls,
     };
-    pieces_told(alloc, &mut DiskFolder::new(&disk), row.places)
+    system_told(alloc, &disk, row.places)
+}
+
+/// What the reads from these places on give, over the folder on the disk of a system.
+fn system_told<F: Files>(alloc: Global, system: &F, places: &[u64]) -> Result<String, AllocError> {
+    let mut folder = DiskFolder::new(system);
+    pieces_told(alloc, &mut folder, places)
 }
 
 /// Asserts what the reads of a row give, and how many calls there were.

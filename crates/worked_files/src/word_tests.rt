@@ -1,5 +1,8 @@
 //! Words after a command word, read as of one form, whose options are not those of any program here.
 
+ghost use Rattle.std.specs.Prelude.{ℕ, List, ◌≤◌};
+ghost use Rattle.plain_words.specs.Items.{times};
+
 use plain_words::{Form, GivenWords, read_form};
 use rail_base::limits::MAX_WORDS;
 use rail_base::{NoMemory, Words};
@@ -15,7 +18,7 @@ const FORM: Form<'static> = Form {
 };
 
 /// Words, and what they are read as: the positional word, the two numbers and whether the flag stands.
-const ROWS: [(&str, &str); 22] = [
+const ROWS: &[(&str, &str)] = &[
     ("DIR", "DIR 200 0 -"),
     ("DIR --nodes 5", "DIR 5 0 -"),
     ("--nodes 5 DIR", "DIR 5 0 -"),
@@ -56,23 +59,44 @@ fn write_number(text: &mut String, number: Option<u32>) -> Result<(), AllocError
     }
 }
 
-/// What words are read as.
-fn reading(alloc: Global, words: &Words) -> Result<String, Fail> {
-    let mut rest = Vec::new(alloc);
-    for place in 0..words.len() {
-        rest.push(words.at(place))?;
-    }
-    let Some(given) = read_form(alloc, &FORM, rest.as_slice())? else {
-        return Ok(String::from_str(alloc, "not read")?);
-    };
-    let mut text = String::from_str(alloc, given.positional(0).unwrap_or("none"))?;
-    write_number(&mut text, given.number("--nodes", 200, 4_000))?;
-    write_number(&mut text, given.number("--change", 0, 1_000_000))?;
-    text.push_str(if given.has("--progress") {
+/// Writes the positional word of a form, its two numbers and whether its flag stands.
+fn write_given(text: &mut String, given: &GivenWords<'_>) -> Result<(), AllocError>
+    requires once { (name : List ℕ) → times name given.now ≤ 1 }
+{
+    text.push_str(given.positional(0).unwrap_or("none"))?;
+    write_number(text, given.number("--nodes", 200, 4_000))?;
+    write_number(text, given.number("--change", 0, 1_000_000))?;
+    let flag = if given.has("--progress") {
         " progress"
     } else {
         " -"
-    })?;
+    };
+    text.push_str(flag)
+}
+
+/// Writes what words are read as.
+fn write_reading(alloc: Global, text: &mut String, words: &[&str]) -> Result<(), Fail> {
+    match read_form(alloc, &FORM, words)? {
+        Some(given) => write_given(text, &given)?,
+        None => text.push_str("not read")?,
+    }
+    Ok(())
+}
+
+/// The words as a list.
+fn list_of(alloc: Global, words: &Words) -> Result<Vec<&str>, AllocError> {
+    let mut list = Vec::new(alloc);
+    for place in 0..words.len() {
+        list.push(words.at(place))?;
+    }
+    Ok(list)
+}
+
+/// What words are read as.
+fn reading(alloc: Global, words: &Words) -> Result<String, Fail> {
+    let list = list_of(alloc, words)?;
+    let mut text = String::new(alloc);
+    write_reading(alloc, &mut text, list.as_slice())?;
     Ok(text)
 }
 
@@ -88,12 +112,17 @@ fn words_in(alloc: Global, line: &str) -> Result<Words, NoMemory> {
     Ok(words)
 }
 
+/// What the words of a line are read as.
+fn line_reading(alloc: Global, line: &str) -> Result<String, Fail> {
+    let words = words_in(alloc, line)?;
+    reading(alloc, &words)
+}
+
 #[test]
 fn words_of_a_form(rt: HostRuntime) -> Result<(), Fail> {
-    let alloc = rt.alloc();
     for (line, wanted) in ROWS {
-        let words = words_in(alloc, line)?;
-        assert!(rt; reading(alloc, &words)?.as_str() == wanted);
+        let text = line_reading(rt.alloc(), *line)?;
+        assert!(rt; text.as_str() == *wanted, "{text}");
     }
     Ok(())
 }
