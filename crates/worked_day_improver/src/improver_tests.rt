@@ -214,21 +214,36 @@ fn add_proposed<R: Relaxation, I: Improver>(
     add_below(alloc, bounds, blank, improver, &to, text)
 }
 
-/// Adds to a text what the improver of days with so many evaluations proposes for a day with its edges.
-fn add_improver(
+/// Adds to a text what an improver that was made proposes for a day, with bounds that were made.
+fn add_made<R: Relaxation + Drop, I: Improver + Drop>(
+    alloc: Global,
+    bounds: Result<R, NoMemory>,
+    blank: &Blank,
+    improver: Result<I, NoMemory>,
+    attempts: u32,
+    text: &mut String,
+) -> Result<(), Fail> {
+    let mut bounds = bounds?;
+    let mut improver = improver?;
+    add_proposed(alloc, &mut bounds, blank, &mut improver, attempts, text)
+}
+
+/// What the improver of days with so many evaluations proposes for a day with its edges, as a text.
+fn proposed_along(
     alloc: Global,
     day: &Instance,
     graphs: &Graphs,
     evaluations: u32,
     attempts: u32,
-    text: &mut String,
-) -> Result<(), Fail>
+) -> Result<String, Fail>
     requires { AreGraphs day.now graphs.now }
 {
     let blank = Blank::of(alloc, day)?;
-    let mut bounds = DayBounds::new(alloc, day, graphs)?;
-    let mut improver = DayImprover::new(alloc, day, graphs, evaluations)?;
-    add_proposed(alloc, &mut bounds, &blank, &mut improver, attempts, text)
+    let mut text = String::new(alloc);
+    let bounds = DayBounds::new(alloc, day, graphs);
+    let improver = DayImprover::new(alloc, day, graphs, evaluations);
+    add_made(alloc, bounds, &blank, improver, attempts, &mut text)?;
+    Ok(text)
 }
 
 /// What an improver with so many evaluations proposes at the root of a day, in so many attempts, and then at a node
@@ -240,9 +255,7 @@ fn proposed(
     attempts: u32,
 ) -> Result<String, Fail> {
     let graphs = Graphs::build(alloc, day)?;
-    let mut text = String::new(alloc);
-    add_improver(alloc, day, &graphs, evaluations, attempts, &mut text)?;
-    Ok(text)
+    proposed_along(alloc, day, &graphs, evaluations, attempts)
 }
 
 /// A trial day of seed 7.
