@@ -8,6 +8,7 @@ use rail_base::limits::MAX_TABLE_BYTES;
 use rail_base::{Bytes, LinkNo, StationNo, TripNo};
 use rail_csv::{Table, TableBytes};
 use std::alloc::Global;
+use std::process::Abort;
 use std::test::Fail;
 use timetable::laws::names_are_found;
 use timetable::{Instance, tables_of};
@@ -76,17 +77,28 @@ fn number_by_name(day: &Instance, trip: TripNo) -> Option<TripNo>
     day.find_trip(day.trip(trip).name.as_str())
 }
 
-#[test]
-fn names_lead_to_numbers(rt: HostRuntime) -> Result<(), Fail> {
-    let day = day_of(rt.alloc(), &five_trips(rt.alloc(), LINKS)?)?;
+/// The day of the five trips.
+fn five_trip_day(alloc: Global) -> Result<Instance, Fail> {
+    let bytes = five_trips(alloc, LINKS)?;
+    day_of(alloc, &bytes)
+}
+
+/// Asserts that the names of the five trips' day, and none else, lead to numbers.
+fn are_found(rt: &impl Abort, day: &Instance) {
     assert!(rt; day.find_station("Z") == Some(StationNo(2)));
     assert!(rt; day.find_station("z").is_none());
     assert!(rt; day.find_trip("T4") == Some(TripNo(3)));
     assert!(rt; day.find_trip("").is_none());
     for number in 0..day.trips() {
         let trip = TripNo(number);
-        assert!(rt; number_by_name(&day, trip) == Some(trip));
+        assert!(rt; number_by_name(day, trip) == Some(trip));
     }
+}
+
+#[test]
+fn names_lead_to_numbers(rt: HostRuntime) -> Result<(), Fail> {
+    let day = five_trip_day(rt.alloc())?;
+    are_found(&rt, &day);
     Ok(())
 }
 
@@ -143,10 +155,15 @@ fn days_without_some_trips(rt: HostRuntime) -> Result<(), Fail> {
     Ok(())
 }
 
+/// The trips that are left of the five without some.
+fn left_without(alloc: Global, gone: &[TripNo]) -> Result<Vec<TripNo>, Fail> {
+    let day = five_trip_day(alloc)?;
+    Ok(day.trips_left(alloc, gone)?)
+}
+
 #[test]
 fn trips_that_are_left(rt: HostRuntime) -> Result<(), Fail> {
-    let day = day_of(rt.alloc(), &five_trips(rt.alloc(), LINKS)?)?;
-    let left = day.trips_left(rt.alloc(), &[TripNo(1), TripNo(0)])?;
+    let left = left_without(rt.alloc(), &[TripNo(1), TripNo(0)])?;
     assert!(rt; left.as_slice() == [TripNo(2), TripNo(3), TripNo(4)].as_slice());
     Ok(())
 }
