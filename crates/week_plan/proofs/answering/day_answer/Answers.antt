@@ -5,7 +5,3 @@ use Rattle.week_plan.proofs.answering.day_answer.Goals as goal
 pub returns-in_err-graphs-clause-asked : goal.returns-in_err-graphs-clause-asked
 returns-in_err-graphs-clause-asked g c =
     are_unasked _ _ (c.args.allowed.rounds * (2 * c.args.allowed.branchings + 1)) c.args.advisors.now.items
-
-pub returns-in_err-improver-clause-asked : goal.returns-in_err-improver-clause-asked
-returns-in_err-improver-clause-asked g c =
-    are_unasked _ _ (c.args.allowed.rounds * (2 * c.args.allowed.branchings + 1)) c.args.advisors.now.items
