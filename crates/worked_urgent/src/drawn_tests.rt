@@ -361,12 +361,35 @@ fn is_right_swap(
     Ok(runs && is_worth && brings(day, wanted, &swapped, most))
 }
 
+/// Whether what the units of a drawn day are swapped for is right, where its own naming is this plan.
+fn is_right_plan(
+    alloc: Global,
+    day: &DrawnDay,
+    wanted: &Wanted,
+    instance: &Instance,
+    plan: &NamedPlan,
+) -> Result<bool, Fail>
+    requires { IsPlan instance.now plan.now }
+{
+    let wish = given_wish(alloc, wanted, instance)?;
+    is_right_swap(alloc, day, wanted, instance, plan, &wish)
+}
+
+/// Whether what the units of a drawn day are swapped for is right, where its tables make this day.
+fn is_right_day(
+    alloc: Global,
+    day: &DrawnDay,
+    wanted: &Wanted,
+    instance: &Instance,
+) -> Result<bool, Fail> {
+    let plan = given_plan(alloc, day, instance)?;
+    is_right_plan(alloc, day, wanted, instance, &plan)
+}
+
 /// Whether what a drawn day's units are swapped for is right.
 fn is_right(alloc: Global, day: &DrawnDay, wanted: &Wanted) -> Result<bool, Fail> {
     let instance = instance_of(alloc, day)?;
-    let plan = given_plan(alloc, day, &instance)?;
-    let wish = given_wish(alloc, wanted, &instance)?;
-    is_right_swap(alloc, day, wanted, &instance, &plan, &wish)
+    is_right_day(alloc, day, wanted, &instance)
 }
 
 /// Of the drawn days, how many bring more than their own naming does, and on how many not all wanted units are brought.
