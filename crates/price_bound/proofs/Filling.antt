@@ -29,8 +29,8 @@ use Rattle.branch_tree.specs.IntSums.{int_sum}
 use Rattle.price_bound.specs.declared.price_tables.PriceTables.{PriceTables}
 use Rattle.price_bound.specs.declared.yard_places.YardPlace.{YardPlace}
 use Rattle.price_bound.specs.EdgeValues.{part_multiplier}
-use Rattle.price_bound.specs.PriceTables.{AreSized, ArePrices, HasSize, amount_at, cleared, summed, with_entry}
-use Rattle.price_bound.specs.PriceTables.{with_handover, with_place, with_prices}
+use Rattle.price_bound.specs.PriceTables.{AreSized, ArePrices, HasSize, amount_at, cleared, looked_up, with_entry}
+use Rattle.price_bound.specs.PriceTables.{with_handover, with_place}
 use Rattle.price_bound.specs.Regrouped.{of_handover, second_price}
 use Rattle.price_bound.specs.CellSizes.{IsSmall, most_price}
 use Rattle.price_bound.specs.YardPrices.{by_place, of_type, price_by, yard_price}
@@ -41,6 +41,14 @@ use Rattle.price_bound.proofs.IntLaws.{none_more, sum_append}
 use Rattle.price_bound.proofs.YardPuts.{all_from, all_next, all_put, from_at, none_from, prices_from, put_at, put_by}
 use Rattle.price_bound.proofs.YardPuts.{put_more}
 use Rattle.price_bound.proofs.YardSums.{length-sums, sums_are}
+
+-- the prices of yards: all that is put is added up, from the last minute to the first
+abbrev pub summed : PriceTables → List (List (List ℤ))
+summed tables = map (map later_sums) tables.yards
+
+-- and trips look there
+abbrev pub with_prices : PriceTables → PriceTables
+with_prices tables = looked_up (record tables { yards = summed tables })
 
 module _ (day : Day) where
   abbrev trips : ℕ

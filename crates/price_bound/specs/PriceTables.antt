@@ -16,7 +16,7 @@ use Rattle.price_bound.specs.declared.price_tables.PriceTables.{PriceTables}
 use Rattle.price_bound.specs.EdgeValues.{part_multiplier}
 use Rattle.price_bound.specs.Regrouped.{second_price}
 use Rattle.price_bound.specs.YardPrices.{yard_price}
-use Rattle.price_bound.specs.YardTables.{ArePlaces, amounts_at, given_at, later_sums, taken_at}
+use Rattle.price_bound.specs.YardTables.{ArePlaces, amounts_at, given_at, taken_at}
 
 -- a table of amounts: one for each row and column
 abbrev pub amount_at : List (List ℤ) → ℕ → ℕ → ℤ
@@ -60,19 +60,12 @@ without_handovers tables = record tables {
 abbrev pub cleared : PriceTables → PriceTables
 cleared tables = without_handovers (record tables { yards = map cleared_table tables.yards })
 
--- the prices of yards: all that is put is added up, from the last minute to the first
-abbrev pub summed : PriceTables → List (List (List ℤ))
-summed tables = map (map later_sums) tables.yards
-
--- and trips look there
+-- trips look up their prices in those of the yards
 abbrev pub looked_up : PriceTables → PriceTables
 looked_up tables = record tables {
   takes = map (amounts_at tables.yards) tables.taken_at.items;
   gives = map (amounts_at tables.yards) tables.given_at.items;
 }
-
-abbrev pub with_prices : PriceTables → PriceTables
-with_prices tables = looked_up (record tables { yards = summed tables })
 
 -- a table has so many rows of so many columns
 pub record HasSize (rows columns : ℕ) (table : List (List ℤ)) : Type 0 where

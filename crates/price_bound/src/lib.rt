@@ -5,6 +5,7 @@ mod amounts;
 mod cells;
 mod chain_rows;
 pub mod changes;
+mod constants;
 mod costs;
 mod credits;
 pub mod day_bounds;

@@ -7,18 +7,24 @@
 //! times the types, and, where there were multipliers at hand-overs before, which are cleared first, with the trips and
 //! the links times the compositions.
 
-ghost use Rattle.std.specs.Prelude.{◌≡◌, ◌<◌, false, length, fold, IfOk};
+ghost use Rattle.std.specs.Prelude.{◌≡◌, ◌<◌, ◌≤◌, ◌*◌, false, length, fold, IfOk, unsigned_abs};
 ghost use Rattle.timetable.specs.Indices.{IsPlace, lambdas_of, places_of};
 ghost use Rattle.branch_tree.specs.Entries.{AreMultipliers, DoFit};
 ghost use Rattle.price_bound.specs.PriceTables.{AreSized, ArePrices, cleared, cleared_table, looked_up, with_entry};
 ghost use Rattle.price_bound.specs.PriceTables.{with_place, without_handovers};
+ghost use Rattle.price_bound.specs.CellSizes.{IsSmall, most_number};
+ghost use Rattle.price_bound.specs.Regrouped.{constant_by, constant_of};
+ghost use Rattle.price_bound.specs.YardPrices.{by_place};
 ghost use Rattle.price_bound.specs.YardTables.{CanLook};
 
 use crate::amounts::AmountTable;
+use crate::constants::constant_by;
+use crate::priced_costs::added;
 use crate::yard_places::{YardPlace, given_places, look_up, taken_places};
 use crate::yard_tables::YardTable;
 use branch_tree::{Entry, Multipliers};
-use rail_base::NoMemory;
+use rail_base::limits::{MAX_ENTRIES, MAX_MULTIPLIER};
+use rail_base::{Money, NoMemory};
 use std::alloc::Global;
 use timetable::{Instance, Place};
 
@@ -71,16 +77,19 @@ impl PriceTables {
     }
 
     /// Puts the prices under multipliers in place of those that were there. The indices of the multipliers are the
-    /// day's. It takes no memory.
-    pub(crate) fn fill(&mut self, instance: &Instance, multipliers: &Multipliers)
+    /// day's. It answers what the multipliers add whatever the picks, and takes no memory.
+    pub(crate) fn fill(&mut self, instance: &Instance, multipliers: &Multipliers) -> Money
         requires fit { DoFit (length (places_of instance.now)) (length (lambdas_of instance.now)) multipliers.now }
         requires sized { AreSized instance.now self.old }
-        ensures { ArePrices instance.now multipliers.now self.new }
+        ensures prices { ArePrices instance.now multipliers.now self.new }
+        ensures value { result.0 ≡ constant_of instance.now multipliers.now }
+        ensures small { IsSmall (MAX_ENTRIES * (MAX_MULTIPLIER * most_number)) result.0 }
     {
         self.clear();
-        self.add_all(instance, multipliers);
+        let constant = self.add_all(instance, multipliers);
         self.yards.add_later();
         self.look_up_trips();
+        constant
     }
 
     /// Sets to zero what multipliers are added to.
@@ -107,33 +116,44 @@ impl PriceTables {
         self.has_handovers = false;
     }
 
-    /// Adds all multipliers. Their indices are the day's.
-    fn add_all(&mut self, instance: &Instance, multipliers: &Multipliers)
+    /// Adds all multipliers, and answers what they add whatever the picks. Their indices are the day's.
+    fn add_all(&mut self, instance: &Instance, multipliers: &Multipliers) -> Money
         requires { DoFit (length (places_of instance.now)) (length (lambdas_of instance.now)) multipliers.now }
         ensures added { self.new ≡ fold (with_entry instance.now) self.old multipliers.now }
         ensures multipliers { AreMultipliers multipliers.now }
+        ensures value { result.0 ≡ constant_of instance.now multipliers.now }
+        ensures small { IsSmall (MAX_ENTRIES * (MAX_MULTIPLIER * most_number)) result.0 }
     {
+        prove!(multipliers.entries().len() <= MAX_ENTRIES);
         let entries = multipliers.entries();
+        let mut sum = Money(0);
         for place in 0..entries.len() {
-            self.add(instance, entries[place]);
+            let amount = self.add(instance, entries[place]);
+            sum = added(sum, amount);
         }
+        sum
     }
 
-    /// Adds a multiplier, whose index is the day's.
-    fn add(&mut self, instance: &Instance, entry: Entry)
-        requires { entry.index < length (places_of instance.now) }
-        ensures { self.new ≡ with_entry instance.now self.old entry }
+    /// Adds a multiplier, whose index is the day's, and answers what it adds whatever the picks: its place is found
+    /// once for both.
+    fn add(&mut self, instance: &Instance, entry: Entry) -> Money
+        requires index { entry.index < length (places_of instance.now) }
+        requires size { unsigned_abs entry.value ≤ MAX_MULTIPLIER }
+        ensures added { self.new ≡ with_entry instance.now self.old entry }
+        ensures value { result.0 ≡ by_place instance.now (constant_by instance.now) entry }
+        ensures small { IsSmall (MAX_MULTIPLIER * most_number) result.0 }
     {
         let place = instance.place(entry.index);
-        self.add_at(instance, place, entry.value);
+        self.add_at(instance, &place, entry.value);
+        constant_by(instance, &place, entry.value)
     }
 
     /// Adds the multiplier of a place.
-    fn add_at(&mut self, instance: &Instance, place: Place, value: i64)
-        requires { IsPlace instance.now place }
-        ensures { self.new ≡ with_place instance.now place value self.old }
+    fn add_at(&mut self, instance: &Instance, place: &Place, value: i64)
+        requires { IsPlace instance.now place.now }
+        ensures { self.new ≡ with_place instance.now place.now value self.old }
     {
-        match place {
+        match *place {
             Place::Lambda {
                 station,
                 unit_type,

@@ -1,19 +1,16 @@
 //! The least priced value of the picks that are near a region, by one cheapest path for each chain.
 
-ghost use Rattle.std.specs.Prelude.{ℕ, ◌≡◌, ◌≤◌, ◌<◌, ◌*◌, ◌+ℤ◌, ◌-ℤ◌, ◌*ℤ◌, pos, neg_ℤ, length, IfOk, IfSome};
-ghost use Rattle.std.specs.Prelude.{unsigned_abs};
+ghost use Rattle.std.specs.Prelude.{◌≡◌, ◌+ℤ◌, length, IfOk, IfSome};
 ghost use Rattle.timetable.specs.Indices.{lambdas_of, places_of};
 ghost use Rattle.transitions.specs.Edges.{AreGraphs};
 ghost use Rattle.branch_tree.specs.Bounds.{IsBound};
 ghost use Rattle.branch_tree.specs.Entries.{DoFit};
 ghost use Rattle.price_bound.specs.CellRows.{HaveRoomFor};
-ghost use Rattle.price_bound.specs.CellSizes.{IsSmall, most_found, most_number, most_chain_value};
+ghost use Rattle.price_bound.specs.CellSizes.{IsSmall, most_found, most_chain_value};
 ghost use Rattle.price_bound.specs.ChangedDays.{AreChanges, changed_day, changed_meanings};
 ghost use Rattle.price_bound.specs.FirstPaths.{AreFound};
 ghost use Rattle.price_bound.specs.Pricing.{ArePriced, priced_by};
-ghost use Rattle.price_bound.specs.Regrouped.{constant_by, constant_of};
 ghost use Rattle.price_bound.specs.Rooms.{IsRoomFor};
-ghost use Rattle.price_bound.specs.YardPrices.{by_place};
 
 use crate::amounts::AmountTable;
 use crate::cells::Cell;
@@ -25,11 +22,11 @@ use crate::price_tables::PriceTables;
 use crate::priced::Pricing;
 use crate::priced_costs::added;
 use crate::trains::Trains;
-use branch_tree::{BoundAnswer, Entry, Multipliers, Region, Weight};
-use rail_base::limits::{MAX_ENTRIES, MAX_LINKS, MAX_MULTIPLIER, MAX_TRIPS};
+use branch_tree::{BoundAnswer, Multipliers, Region, Weight};
+use rail_base::limits::{MAX_ENTRIES, MAX_LINKS, MAX_TRIPS};
 use rail_base::{Money, NoMemory};
 use std::alloc::Global;
-use timetable::{Instance, Picks, Place};
+use timetable::{Instance, Picks};
 use transitions::Graphs;
 
 /// The room in which the bounds of a day are found.
@@ -112,7 +109,7 @@ impl Workspace {
         prove!(multipliers.entries().len() <= MAX_ENTRIES);
         prove!(instance.chains() as usize <= MAX_TRIPS);
         prove!(instance.links() as usize <= MAX_LINKS);
-        self.tables.fill(instance, multipliers);
+        let constant = self.tables.fill(instance, multipliers);
         fill_sums(
             instance,
             &self.trains,
@@ -136,7 +133,7 @@ impl Workspace {
         match first_paths(&pricing, &mut self.rows, &mut self.choice) {
             Some(value) => {
                 best.copy_from(&self.choice);
-                BoundAnswer::Value(added(constant(instance, multipliers), value))
+                BoundAnswer::Value(added(constant, value))
             }
             None => BoundAnswer::Empty,
         }
@@ -175,66 +172,4 @@ fn with_begin(value: Money, begin: Cell) -> Money
     ensures { result.0 ≡ value.0 +ℤ begin.value }
 {
     Money(value.0 + i128::from(begin.value))
-}
-
-/// What multipliers add whatever the picks.
-fn constant(instance: &Instance, multipliers: &Multipliers) -> Money
-    requires { DoFit (length (places_of instance.now)) (length (lambdas_of instance.now)) multipliers.now }
-    ensures value { result.0 ≡ constant_of instance.now multipliers.now }
-    ensures small { IsSmall (MAX_ENTRIES * (MAX_MULTIPLIER * most_number)) result.0 }
-{
-    let entries = multipliers.entries();
-    let mut sum = Money(0);
-    for place in 0..entries.len() {
-        let amount = constant_by(instance, &entries[place]);
-        sum = added(sum, amount);
-    }
-    sum
-}
-
-/// What one multiplier adds whatever the picks.
-fn constant_by(instance: &Instance, entry: &Entry) -> Money
-    requires index { entry.now.index < length (places_of instance.now) }
-    requires size { unsigned_abs entry.now.value ≤ MAX_MULTIPLIER }
-    ensures value { result.0 ≡ by_place instance.now (constant_by instance.now) entry.now }
-    ensures small { IsSmall (MAX_MULTIPLIER * most_number) result.0 }
-{
-    match instance.place(entry.index) {
-        Place::Lambda {
-            station,
-            unit_type,
-            ..
-        } => times(entry, negated(instance.start(station, unit_type))),
-        Place::Mu { station, unit_type } => {
-            let start = instance.start(station, unit_type);
-            times(entry, difference(instance.end(station, unit_type), start))
-        }
-        Place::Sigma { .. } => Money(0),
-    }
-}
-
-/// Minus a number of units.
-fn negated(units: u32) -> Money
-    ensures value { result.0 ≡ neg_ℤ (pos units) }
-    ensures small { IsSmall most_number result.0 }
-{
-    Money(-i128::from(units))
-}
-
-/// A number of units less another.
-fn difference(units: u32, other: u32) -> Money
-    ensures value { result.0 ≡ pos units -ℤ pos other }
-    ensures small { IsSmall most_number result.0 }
-{
-    Money(i128::from(units) - i128::from(other))
-}
-
-/// A multiplier times a number of units.
-fn times(entry: &Entry, units: Money) -> Money
-    requires size { unsigned_abs entry.now.value ≤ MAX_MULTIPLIER }
-    requires units { IsSmall most_number units.0 }
-    ensures value { result.0 ≡ entry.now.value *ℤ units.0 }
-    ensures small { IsSmall (MAX_MULTIPLIER * most_number) result.0 }
-{
-    Money(i128::from(entry.value) * units.0)
 }

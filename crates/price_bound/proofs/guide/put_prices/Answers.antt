@@ -4,20 +4,20 @@ use Rattle.price_bound.proofs.guide.put_prices.Goals as goal
 
 pub fill_sums-requires-clause-gives : goal.fill_sums-requires-clause-gives
 fill_sums-requires-clause-gives c =
-    gives_by_type c.args.asked.now.instance.now c.args.asked.now.multipliers.now c.fill.new.self c.fill.ensures c.entries.ensures.multipliers
+    gives_by_type c.args.asked.now.instance.now c.args.asked.now.multipliers.now c.fill.new.self c.fill.ensures.prices c.entries.ensures.multipliers
 
 pub fill_sums-requires-clause-takes : goal.fill_sums-requires-clause-takes
 fill_sums-requires-clause-takes c =
-    takes_by_type c.args.asked.now.instance.now c.args.asked.now.multipliers.now c.fill.new.self c.fill.ensures c.entries.ensures.multipliers
+    takes_by_type c.args.asked.now.instance.now c.args.asked.now.multipliers.now c.fill.new.self c.fill.ensures.prices c.entries.ensures.multipliers
 
 pub put_all-requires-clause-priced : goal.put_all-requires-clause-priced
 put_all-requires-clause-priced c = record {
   graphs_are = c.requires.graphs;
   multipliers_are = c.entries.ensures.multipliers;
   costs = c.requires.room.costs;
-  prices = c.fill.ensures;
-  credits = credits_are c.args.asked.now.instance.now c.args.asked.now.multipliers.now c.fill.new.self c.fill_sums.new.credits c.fill.ensures c.fill_sums.ensures.credits;
-  debits = debits_are c.args.asked.now.instance.now c.args.asked.now.multipliers.now c.fill.new.self c.fill_sums.new.debits c.fill.ensures c.fill_sums.ensures.debits;
+  prices = c.fill.ensures.prices;
+  credits = credits_are c.args.asked.now.instance.now c.args.asked.now.multipliers.now c.fill.new.self c.fill_sums.new.credits c.fill.ensures.prices c.fill_sums.ensures.credits;
+  debits = debits_are c.args.asked.now.instance.now c.args.asked.now.multipliers.now c.fill.new.self c.fill_sums.new.debits c.fill.ensures.prices c.fill_sums.ensures.debits;
   trains = c.requires.room.trains;
   over = c.requires.region;
 }

@@ -11,20 +11,20 @@ use Rattle.price_bound.proofs.workspaces.Workspace.bound.Goals as goal
 
 pub fill_sums-requires-clause-gives : goal.fill_sums-requires-clause-gives
 fill_sums-requires-clause-gives c =
-    gives_by_type c.args.instance.now c.args.multipliers.now c.fill.new.self c.fill.ensures c.entries.ensures.multipliers
+    gives_by_type c.args.instance.now c.args.multipliers.now c.fill-constant.new.self c.fill-constant.ensures.prices c.entries.ensures.multipliers
 
 pub fill_sums-requires-clause-takes : goal.fill_sums-requires-clause-takes
 fill_sums-requires-clause-takes c =
-    takes_by_type c.args.instance.now c.args.multipliers.now c.fill.new.self c.fill.ensures c.entries.ensures.multipliers
+    takes_by_type c.args.instance.now c.args.multipliers.now c.fill-constant.new.self c.fill-constant.ensures.prices c.entries.ensures.multipliers
 
 pub first_paths-requires-clause-priced : goal.first_paths-requires-clause-priced
 first_paths-requires-clause-priced c = record {
   graphs_are = c.requires.graphs;
   multipliers_are = c.entries.ensures.multipliers;
   costs = c.requires.room.costs;
-  prices = c.fill.ensures;
-  credits = credits_are c.args.instance.now c.args.multipliers.now c.fill.new.self c.fill_sums.new.credits c.fill.ensures c.fill_sums.ensures.credits;
-  debits = debits_are c.args.instance.now c.args.multipliers.now c.fill.new.self c.fill_sums.new.debits c.fill.ensures c.fill_sums.ensures.debits;
+  prices = c.fill-constant.ensures.prices;
+  credits = credits_are c.args.instance.now c.args.multipliers.now c.fill-constant.new.self c.fill_sums.new.credits c.fill-constant.ensures.prices c.fill_sums.ensures.credits;
+  debits = debits_are c.args.instance.now c.args.multipliers.now c.fill-constant.new.self c.fill_sums.new.debits c.fill-constant.ensures.prices c.fill_sums.ensures.debits;
   trains = c.requires.room.trains;
   over = c.requires.region;
 }
@@ -46,7 +46,7 @@ returns-in-Some-clause-bound c =
     (day_priced priced c.links.ensures.sound c.requires.changes) c.links.ensures.sound c.requires.graphs
     c.chains.ensures.whole c.requires.region c.copy_from.new.self c.args.best.now c.in-Some.value c.added.result
     (ap length c.copy_from.ensures ∙ c.first_paths.ensures.choice) found
-    (c.added.ensures ∙ ap (λ (z : ℤ). z +ℤ c.in-Some.value.0) c.constant.ensures.value)
+    (c.added.ensures ∙ ap (λ (z : ℤ). z +ℤ c.in-Some.value.0) c.fill-constant.ensures.value)
 
 pub returns-in-None-clause-bound : goal.returns-in-None-clause-bound
 returns-in-None-clause-bound c =
