@@ -22,8 +22,8 @@ use Rattle.transitions.proofs.Kept.{length-turned, turned_twice}
 use Rattle.transitions.proofs.Numbers.{at_number, same_place}
 use Rattle.transitions.proofs.PartsFit.{left_fits, right_fits}
 use Rattle.price_bound.specs.CompositionTrees.{AreRests, AreTurnedPlaces, IsMadeOf, IsUnitMore}
-use Rattle.price_bound.specs.LeastOverTrees.{IsLeastOver, IsOver, IsTree}
-use Rattle.price_bound.proofs.LeastOverTrees.{least_same}
+use Rattle.price_bound.specs.LeastOverTrees.{IsLeastOver, IsOver}
+use Rattle.price_bound.proofs.LeastOverTrees.{IsTree, least_same}
 
 -- ---- lists
 

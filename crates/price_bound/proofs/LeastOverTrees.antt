@@ -5,7 +5,18 @@ use Rattle.std.proofs.Common.{ℤ, ◌+ℤ◌, ◌≤ℤ◌, inl, inr, int_lt}
 use Rattle.std.specs.Prelude.{if◌then◌else◌}
 use Rattle.std.proofs.lemmas.Bool.{cases_eq}
 use Rattle.std.proofs.lemmas.Int.{ints, by_lt_z}
-use Rattle.price_bound.specs.LeastOverTrees.{IsLeastOver, IsOver, IsTree, lower}
+use Rattle.price_bound.specs.LeastOverTrees.{IsLeastOver, IsOver, lower}
+
+-- Each number below n has a rest, which is lower, or the root, which is n. A number is made of another (Of) where it is
+-- itself, or its rest is made of that one.
+pub record IsTree (Of : ℕ → ℕ → Type 0) (rest : ℕ → ℕ) (n : ℕ) : Type 0 where
+  pub falls : (c : ℕ) → c < n → (rest c < c) ⊎ (rest c ≡ n)
+  pub itself : (c : ℕ) → c < n → Of c c
+  pub more : (c a : ℕ) → c < n → Of (rest c) a → Of c a
+  pub parts : (c a : ℕ) → c < n → Of c a → (c ≡ a) ⊎ Of (rest c) a
+  pub root : (a : ℕ) → Of n a → ⊥
+  pub join : (c q p : ℕ) → q < n → p < n → rest q ≡ p → Of c q → Of c p
+  pub along : (c p : ℕ) → Of c p → (c ≡ p) ⊎ ((q : ℕ) × (q < n) × (rest q ≡ p) × Of c q)
 
 -- ---- the lower of two
 

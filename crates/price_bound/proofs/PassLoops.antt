@@ -16,13 +16,22 @@ use Rattle.price_bound.specs.CellSizes.{AreSmallCells, IsSmall}
 use Rattle.price_bound.specs.ChainStages.{Priced, cost_on, may_have, priced_cost_of}
 use Rattle.price_bound.specs.CompositionTrees.{IsMadeOf, place_at}
 use Rattle.price_bound.specs.HeldValues.{HoldsCell, least_none, no_value}
-use Rattle.price_bound.specs.LeastOverTrees.{IsTree, lower}
-use Rattle.price_bound.specs.PassValues.{AreAhead, AreLonger, ArePassValues, ArePassed, AreShorter, IsForPasses, comps_for}
+use Rattle.price_bound.specs.LeastOverTrees.{lower}
+use Rattle.price_bound.specs.PassValues.{AreAhead, AreLonger, ArePassValues, AreShorter, IsForPasses, comps_for}
 use Rattle.price_bound.specs.PassValues.{most_held, most_summed, priced_for, value_at}
 use Rattle.price_bound.specs.Regrouped.{trip_value}
 use Rattle.price_bound.proofs.CompositionTrees.{composition_tree, least_fewer_of, least_more_of, turned_back, turned_once}
-use Rattle.price_bound.proofs.LeastOverTrees.{AreDown, AreUp, LowerCase, down_none, down_one, first, lower_case, second, up_one, up_rest}
+use Rattle.price_bound.proofs.LeastOverTrees.{AreDown, AreUp, IsTree, LowerCase, down_none, down_one, first, lower_case, second, up_one, up_rest}
 use Rattle.price_bound.proofs.PassValues.{held_turning, least_turning, offered_small}
+
+-- for each composition that is another one below a number after a reversal, and may run on the arriving trip, the value
+-- of the cell that the edges offer
+pub record ArePassed (passes : Passes) (ahead : List ℤ) (at : ℕ) (values : List ℤ) : Type 0 where
+  pub long : length values ≡ comps_for passes
+  pub each : (comp : ℕ) → comp < at → IsAdmittedComp (priced_for passes).day passes.turn.arriving
+      (place_at passes.turned.now comp)
+      → HoldsCell least_none (value_at values (place_at passes.turned.now comp))
+      (offered_from (priced_for passes) (Some passes.link) (map cell_in ahead) (place_at passes.turned.now comp))
 
 -- ---- what may run
 

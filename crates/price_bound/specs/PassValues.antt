@@ -103,15 +103,6 @@ pub record AreShorter (passes : Passes) (ahead : List ℤ) (at : ℕ) (shorter :
       (λ c. value_at ahead c +ℤ value_at passes.credits.now c) no_value (value_at shorter comp)
   pub small : (comp : ℕ) → comp < at → IsSmall most_summed (value_at shorter comp)
 
--- for each composition that is another one below a number after a reversal, and may run on the arriving trip, the value
--- of the cell that the edges offer
-pub record ArePassed (passes : Passes) (ahead : List ℤ) (at : ℕ) (values : List ℤ) : Type 0 where
-  pub long : length values ≡ comps_for passes
-  pub each : (comp : ℕ) → comp < at → IsAdmittedComp (priced_for passes).day passes.turn.arriving
-      (place_at passes.turned.now comp)
-      → HoldsCell least_none (value_at values (place_at passes.turned.now comp))
-      (offered_from (priced_for passes) (Some passes.link) (map cell_in ahead) (place_at passes.turned.now comp))
-
 -- for each composition that may run on the arriving trip the value of the cell that the edges offer
 pub record ArePassValues (passes : Passes) (ahead values : List ℤ) : Type 0 where
   pub long : length values ≡ comps_for passes

@@ -3,8 +3,8 @@ use Rattle.std.proofs.Common.{◌≡◌, ◌<◌, ℕ, suc, ◌+◌, ◌+ℤ◌,
 use Rattle.price_bound.specs.CellSizes.{IsSmall}
 use Rattle.price_bound.specs.LeastOverTrees.{lower}
 use Rattle.price_bound.specs.CompositionTrees.{place_at}
-use Rattle.price_bound.specs.PassValues.{ArePassed, AreShorter, comps_for, most_summed, value_at}
-use Rattle.price_bound.proofs.PassLoops.{fewer_small, passed_all, passed_one, shorter_one}
+use Rattle.price_bound.specs.PassValues.{AreShorter, comps_for, most_summed, value_at}
+use Rattle.price_bound.proofs.PassLoops.{ArePassed, fewer_small, passed_all, passed_one, shorter_one}
 use Rattle.price_bound.proofs.passes.Passes.put_values.Goals as goal
 
 pub turning-value-requires-clause-fewer : goal.turning-value-requires-clause-fewer

@@ -1,5 +1,6 @@
 -- The compositions below a number have their values.
-use Rattle.price_bound.specs.PassValues.{ArePassed, AreShorter}
+use Rattle.price_bound.specs.PassValues.{AreShorter}
+use Rattle.price_bound.proofs.PassLoops.{ArePassed}
 use Rattle.price_bound.proofs.passes.Passes.put_values.Given as goal
 
 abbrev pub invariant-loop-comp : goal.invariant-loop-comp
