@@ -111,7 +111,7 @@ pub(crate) fn offered<P: EdgePrices>(
     requires small { AreSmallCells most_ahead ahead.now }
     ensures { result ≡ offered_from (P.priced prices.now) (Some (P.link prices.now)) ahead.now comp }
 {
-    let begin = first_from(edges, comp, 0);
+    let begin = halved_from(edges, comp);
     least_from(prices, edges, comp, begin, ahead).cell
 }
 
