@@ -4,11 +4,12 @@ use Rattle.std.proofs.Common.{ℤ, pos, sym, ap, ◌∙◌, subst, arith, inl, i
 use Rattle.std.proofs.lemmas.Bool.{cases_eq, cases_lt}
 use Rattle.std.proofs.lemmas.List.{get_or-map, get_or-set_other, get_or-set_same, length-map}
 use Rattle.std.proofs.Math.Nat.{div-div-eq-div-mul, pow-suc, zero-div}
+use Rattle.std.specs.Prelude.{slice_index}
 use Rattle.price_bound.specs.declared.cells.Cell.{Cell}
 use Rattle.price_bound.specs.CellRows.{IsHeld, bare, cell_in}
 use Rattle.price_bound.specs.HeldValues.{no_value}
 use Rattle.price_bound.specs.PassValues.{value_at}
-use Rattle.price_bound.specs.RowValues.{AreFilled, HasCells, TellsMembers}
+use Rattle.price_bound.specs.RowValues.{AreFilled, HasCells, TellsAll, TellsMembers}
 
 module _ (n : ℕ) (cell : ℕ → Option Cell) (IsFew : Option Cell → Type 0) where
   -- a row of which the values are out is filled up to the first composition
@@ -65,6 +66,48 @@ module _ (n : ℕ) (cell : ℕ → Option Cell) (IsFew : Option Cell → Type 0)
       other : (k : ℕ) → k ≢ comp → value_at (set values comp value) k ≡ value_at values k
       other k differ = get_or-set_other values comp k value (pos 0) differ
 
+  -- a row of which the values below a composition are put, whatever stands in the others
+  pub record ArePut (comp : ℕ) (values : List ℤ) : Type 0 where
+    pub long : length values ≡ n
+    pub cells : (k : ℕ) → k < comp → k < n → cell_in (value_at values k) ≡ bare (cell k)
+    pub few : (k : ℕ) → k < comp → k < n → IsFew (cell_in (value_at values k))
+    pub held : (k : ℕ) → k < comp → k < n → IsHeld (value_at values k)
+
+  -- one value more is put
+  pub put_more : (comp : ℕ) (values : List ℤ) (value : ℤ) → ArePut comp values → comp < n → cell_in value ≡ bare (cell comp)
+      → IsHeld value → IsFew (cell_in value) → ArePut (suc comp) (set values comp value)
+  put_more comp values value done inside is held few = record {
+    long = length-set values comp value ∙ done.long;
+    cells = λ k lt below. elim (cases_eq k comp) [
+      | inl same ↦ subst (λ (i : ℕ). cell_in (value_at (set values comp value) i) ≡ bare (cell i)) (sym same) (ap cell_in put ∙ is)
+      | inr differ ↦ ap cell_in (other k differ) ∙ done.cells k (omega (arith, lt, differ)) below
+    ];
+    few = λ k lt below. elim (cases_eq k comp) [
+      | inl same ↦ subst (λ (i : ℕ). IsFew (cell_in (value_at (set values comp value) i))) (sym same) (subst (λ (v : ℤ). IsFew (cell_in v)) (sym put) few)
+      | inr differ ↦ subst (λ (v : ℤ). IsFew (cell_in v)) (sym (other k differ)) (done.few k (omega (arith, lt, differ)) below)
+    ];
+    held = λ k lt below. elim (cases_eq k comp) [
+      | inl same ↦ subst (λ (i : ℕ). IsHeld (value_at (set values comp value) i)) (sym same) (subst IsHeld (sym put) held)
+      | inr differ ↦ subst IsHeld (sym (other k differ)) (done.held k (omega (arith, lt, differ)) below)
+    ];
+  }
+    where
+      put : value_at (set values comp value) comp ≡ value
+      put = get_or-set_same values comp value (pos 0) (omega (arith, inside, done.long))
+
+      other : (k : ℕ) → k ≢ comp → value_at (set values comp value) k ≡ value_at values k
+      other k differ = get_or-set_other values comp k value (pos 0) differ
+
+  -- a row of which all values are put is filled
+  pub put_filled : (values : List ℤ) → ArePut n values → AreFilled n cell IsFew n values
+  put_filled values done = record {
+    long = done.long;
+    cells = done.cells;
+    few = done.few;
+    held = λ k below. done.held k below below;
+    rest = λ k past below. absurd (omega (arith, past, below));
+  }
+
   -- the row of the values has the cells
   pub filled_cells : (values : List ℤ) → AreFilled n cell IsFew n values → HasCells n cell IsFew (map cell_in values)
   filled_cells values done = record {
@@ -87,6 +130,18 @@ pub no_members : (member : ℕ → Bool) (begin : ℕ) → TellsMembers member b
 no_members member begin tells k from to =
     let place : begin + (k - begin) ≡ k = omega (arith, from) in
     ap member (sym place) ∙ tells (k - begin) (omega (arith, from, to)) ∙ ap (λ (d : ℕ). eqb (d % 2) 1) (zero-div (2 ^ (k - begin)))
+
+-- words tell of the compositions of one word more, where its lowest bits are 1
+pub tells_more : (words : List ℕ) (place ones : ℕ) → TellsAll words (place * 64) → ones ≤ 64
+    → ((bit : ℕ) → bit < ones → slice_index words place / 2 ^ bit % 2 ≡ 1) → TellsAll words (place * 64 + ones)
+tells_more words place ones told few are comp below = elim (cases_lt comp (place * 64)) [
+  | inl before ↦ told comp before
+  | inr after ↦
+      let at : comp / 64 ≡ place = omega (arith, after, below, few) in
+      let bit : comp % 64 ≡ comp - place * 64 = omega (arith, after, below, few) in
+      ap (λ (p : ℕ). slice_index words p / 2 ^ (comp % 64) % 2) at ∙ ap (λ (i : ℕ). slice_index words place / 2 ^ i % 2) bit
+      ∙ are (comp - place * 64) (omega (arith, after, below))
+]
 
 -- a bit tells of a composition
 pub bit_tells : (member : ℕ → Bool) (begin word comp left : ℕ) → TellsMembers member begin word → begin ≤ comp → comp < begin + 64

@@ -1,6 +1,6 @@
 -- Rows that are made by the members of a set of compositions, word by word.
 use Rattle.std.specs.Prelude.{ℕ, ◌≡◌, ◌<◌, ◌≤◌, ◌+◌, ◌/◌, ◌%◌, ◌^◌, ◌==◌, List, length, get_or, Bool, false}
-use Rattle.std.specs.Prelude.{Option, None, Some, IfSome, is_none, ℤ, pos}
+use Rattle.std.specs.Prelude.{Option, None, Some, IfSome, is_none, slice_index, ℤ, pos}
 use Rattle.timetable.specs.Links.{outgoing}
 use Rattle.branch_tree.specs.declared.sets.TheConstants.{WORD_BITS}
 use Rattle.branch_tree.specs.Regions.{has}
@@ -24,6 +24,11 @@ HaveNone member cell = (comp : ℕ) → member comp ≡ false → cell comp ≡ 
 abbrev pub TellsMembers : (ℕ → Bool) → ℕ → ℕ → Type 0
 TellsMembers member begin word =
     (bit : ℕ) → bit < WORD_BITS → member (begin + bit) ≡ (word / 2 ^ bit % 2 == 1)
+
+-- the bits of words tell of each composition of so many that it is a member
+abbrev pub TellsAll : List ℕ → ℕ → Type 0
+TellsAll words comps =
+    (comp : ℕ) → comp < comps → slice_index words (comp / WORD_BITS) / 2 ^ (comp % WORD_BITS) % 2 ≡ 1
 
 -- the values of the first compositions stand for these cells, but for where they lead, and each is small in some sense;
 -- those of the others stand for none

@@ -1,14 +1,14 @@
 //! Rows that are made by the members of a set: no other composition has a cell.
 //!
-//! A word of the set tells of 64 compositions at once whether they are members, and words without members are passed
-//! over.
+//! A word of the set tells of 64 compositions at once whether they are members: words without members are passed over,
+//! and no bit is looked at where all compositions are members.
 
 ghost use Rattle.std.specs.Prelude.{ℕ, ◌≡◌, ◌<◌, ◌≤◌, ◌+◌, ◌*◌, ◌/◌, ◌%◌, ◌^◌, ◌==◌, Bool, None, Option, length, true};
-ghost use Rattle.std.specs.Prelude.{slice_index};
+ghost use Rattle.std.specs.Prelude.{IsTrue, slice_index};
 ghost use Rattle.price_bound.specs.declared.cells.Cell.{Cell};
 ghost use Rattle.price_bound.specs.CellRows.{IsHeld, bare, cell_in, comps_of};
-ghost use Rattle.price_bound.specs.RowValues.{AreFilled, HaveNone, IsOneStepAt, TellsMembers, end_cell, is_had};
-ghost use Rattle.price_bound.specs.RowValues.{priced_on};
+ghost use Rattle.price_bound.specs.RowValues.{AreFilled, HaveNone, IsOneStepAt, TellsAll, TellsMembers, end_cell};
+ghost use Rattle.price_bound.specs.RowValues.{is_had, priced_on};
 ghost use Rattle.price_bound.specs.TripAndLinkPrices.{IsForTrip};
 
 use crate::cells::{Cell, value_of, with_priced_cost};
@@ -86,10 +86,56 @@ pub(crate) fn put_row<V: RowValues>(values: &V, words: &[u64], row: &mut [i64])
     requires row { length row.old ≡ V.comps values.now }
     ensures { AreFilled (V.comps values.now) (V.cell values.now) (V.IsFew values.now) (V.comps values.now) row.new }
 {
+    if has_all(words, row.len()) {
+        put_all(values, row);
+        return;
+    }
     clear(row);
     let used = words.len().min(row.len() / WORD_BITS + 1);
     for place in 0..used {
         put_word(values, words[place], (place * WORD_BITS) as u32, row);
+    }
+}
+
+/// Whether each composition of so many is a member of a set, of which these are the words.
+fn has_all(words: &[u64], comps: usize) -> bool
+    ensures { IsTrue result → TellsAll words.now comps }
+{
+    let mut left = comps;
+    for place in 0..words.len() {
+        let ones = low_ones(words[place]);
+        if left <= ones {
+            return true;
+        }
+        if ones < WORD_BITS {
+            return false;
+        }
+        left -= WORD_BITS;
+    }
+    false
+}
+
+/// How many of the lowest bits of a word are 1, up to the first that is 0.
+fn low_ones(word: u64) -> usize
+    ensures most { result ≤ WORD_BITS }
+    ensures ones { (bit : ℕ) → bit < result → word / 2 ^ bit % 2 ≡ 1 }
+{
+    if word == u64::MAX {
+        return WORD_BITS;
+    }
+    word.trailing_ones() as usize
+}
+
+/// Puts into a row what stands there for each composition, where all are members.
+fn put_all<V: RowValues>(values: &V, row: &mut [i64])
+    requires are { V.are_of_trip values.now }
+    requires members { (comp : ℕ) → comp < V.comps values.now → V.member values.now comp ≡ true }
+    requires most { V.comps values.now ≤ MAX_COMPOSITIONS }
+    requires row { length row.old ≡ V.comps values.now }
+    ensures { AreFilled (V.comps values.now) (V.cell values.now) (V.IsFew values.now) (V.comps values.now) row.new }
+{
+    for comp in 0..row.len() as u32 {
+        row[comp as usize] = values.value(CompNo(comp));
     }
 }
 
