@@ -1,8 +1,9 @@
 -- Amounts of a row that are added up from the last to the first.
-use Rattle.std.proofs.Common.{◌≡◌, ℕ, zero, suc, ◌<◌, List, [], ◌∷◌, ◌++◌, length, set, get_or, take, drop, refl, sym}
+use Rattle.std.proofs.Common.{◌≡◌, ℕ, zero, suc, ◌<◌, List, [], ◌∷◌, ◌++◌, length, set, get_or, take, drop, map, refl, sym}
 use Rattle.std.proofs.Common.{ap, ◌∙◌, subst, arith, ℤ, pos, ◌+ℤ◌}
 use Rattle.inventory.specs.CountTable.{plus}
 use Rattle.price_bound.specs.CellSizes.{IsSmall}
+use Rattle.price_bound.specs.PriceTables.{cleared_table}
 use Rattle.price_bound.specs.YardTables.{later_sums, whole_sum}
 use Rattle.price_bound.proofs.Adding.{plus_is}
 
@@ -58,3 +59,28 @@ sums_are (x ∷ xs) amount sum at none next small zero lt = whole_is (x ∷ xs) 
 sums_are (x ∷ xs) amount sum at none next small (suc k) lt =
     sums_are xs (λ k. amount (suc k)) (λ k. sum (suc k)) (λ k below. at (suc k) (omega (arith, below))) none
     (λ k. next (suc k)) (λ k. small (suc k)) k (omega (arith, lt))
+
+-- ---- where nothing is put
+
+whole_none : (xs : List ℤ) → whole_sum (map (λ (_ : ℤ). pos 0) xs) ≡ pos 0
+whole_none [] = refl
+whole_none (x ∷ xs) = ap (λ (sum : ℤ). plus sum (pos 0)) (whole_none xs)
+
+row_none : (xs : List ℤ) → later_sums (map (λ (_ : ℤ). pos 0) xs) ≡ map (λ (_ : ℤ). pos 0) xs
+row_none [] = refl
+row_none (x ∷ xs) =
+    ap (λ (sum : ℤ). sum ∷ later_sums (map (λ (_ : ℤ). pos 0) xs)) (whole_none (x ∷ xs))
+    ∙ ap (λ (ys : List ℤ). pos 0 ∷ ys) (row_none xs)
+
+table_none : (table : List (List ℤ)) → map later_sums (cleared_table table) ≡ cleared_table table
+table_none [] = refl
+table_none (xs ∷ table) =
+    ap (λ (ys : List ℤ). ys ∷ map later_sums (cleared_table table)) (row_none xs)
+    ∙ ap (λ (rows : List (List ℤ)). map (λ (_ : ℤ). pos 0) xs ∷ rows) (table_none table)
+
+-- amounts that are 0 stay so when they are added up
+pub sums_none : (tables : List (List (List ℤ))) → map (map later_sums) (map cleared_table tables) ≡ map cleared_table tables
+sums_none [] = refl
+sums_none (table ∷ tables) =
+    ap (λ (rows : List (List ℤ)). rows ∷ map (map later_sums) (map cleared_table tables)) (table_none table)
+    ∙ ap (λ (rest : List (List (List ℤ))). cleared_table table ∷ rest) (sums_none tables)

@@ -7,7 +7,7 @@
 //! times the types, and, where there were multipliers at hand-overs before, which are cleared first, with the trips and
 //! the links times the compositions.
 
-ghost use Rattle.std.specs.Prelude.{◌≡◌, ◌<◌, ◌≤◌, ◌*◌, false, length, fold, IfOk, unsigned_abs};
+ghost use Rattle.std.specs.Prelude.{◌≡◌, ◌<◌, ◌≤◌, ◌*◌, [], false, length, map, fold, IfOk, unsigned_abs};
 ghost use Rattle.timetable.specs.Indices.{IsPlace, lambdas_of, places_of};
 ghost use Rattle.branch_tree.specs.Entries.{AreMultipliers, DoFit};
 ghost use Rattle.price_bound.specs.PriceTables.{AreSized, ArePrices, cleared, cleared_table, looked_up, with_entry};
@@ -15,7 +15,7 @@ ghost use Rattle.price_bound.specs.PriceTables.{with_place, without_handovers};
 ghost use Rattle.price_bound.specs.CellSizes.{IsSmall, most_number};
 ghost use Rattle.price_bound.specs.Regrouped.{constant_by, constant_of};
 ghost use Rattle.price_bound.specs.YardPrices.{by_place};
-ghost use Rattle.price_bound.specs.YardTables.{CanLook};
+ghost use Rattle.price_bound.specs.YardTables.{CanLook, later_sums};
 
 use crate::amounts::AmountTable;
 use crate::constants::constant_by;
@@ -87,7 +87,7 @@ impl PriceTables {
     {
         self.clear();
         let constant = self.add_all(instance, multipliers);
-        self.yards.add_later();
+        self.add_up(multipliers);
         self.look_up_trips();
         constant
     }
@@ -171,6 +171,17 @@ impl PriceTables {
                 self.has_handovers = true;
             }
         }
+    }
+
+    /// Adds up the amounts of the yards, from the last minute to the first. Without multipliers they are 0 and stay so.
+    fn add_up(&mut self, multipliers: &Multipliers)
+        requires { multipliers.now ≡ [] → map (map later_sums) self.old.yards ≡ self.old.yards }
+        ensures { self.new ≡ record self.old { yards = map (map later_sums) self.old.yards } }
+    {
+        if multipliers.entries().is_empty() {
+            return;
+        }
+        self.yards.add_later();
     }
 
     /// Looks up the prices of what trips take and give, in the prices of the yards.
