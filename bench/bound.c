@@ -1,10 +1,11 @@
 /* The least value of paths along the chains of a day, in plain C: the line that `bound` is measured against.
 
-       bound PROBLEM TIMES
+       bound PROBLEM TIMES [narrow]
 
    PROBLEM is a text of numbers that bound.py writes: the compositions, the trips with what units are priced at their
    departure and their arrival, the edges of each kind of turn, and the chains. The least value is found TIMES times,
-   and the last is printed.
+   and the last is printed; that of the region which has the first composition alone on nine of ten trips, where `narrow`
+   is said.
 
    Turns uncouple and couple at the rear, so that no edge is gone through for a value: a composition is led on from by
    those that it begins with, and by those that begin with it. Edges tell the next composition of a path alone. */
@@ -214,9 +215,15 @@ static int64_t least_of_all(void) {
     return value;
 }
 
+static void narrow(void) {
+    for (int t = 0; t < trips; t++)
+        for (int c = 2; c <= comps && t % 10; c++) region[(size_t)t * (comps + 1) + c] = 0;
+}
+
 int main(int argc, char **argv) {
-    if (argc != 3) return 1;
+    if (argc != 3 && argc != 4) return 1;
     read_problem(argv[1]);
+    if (argc == 4) narrow();
     int64_t value = 0, first = 0;
     for (int times = atoi(argv[2]); times > 0; times--) value = least_of_all();
     for (int t = 0; t < trips; t++) first = (first * 31 + choice[t] - 1) % 1000003;

@@ -31,7 +31,8 @@ TRIPS = "trip,from,departure,to,arrival,km,demand"
 LINKS = "kind,arriving,arriving2,departing,departing2,reverse,uncouple,couple"
 
 PROGRAM = """//! Finds the bound of the day in this folder as often as `bound` is said;
-//! under multipliers, where `priced` is said.
+//! under multipliers, where `priced` is said; and of the region that has the first composition alone
+//! on nine of ten trips, where `narrow` is said.
 #![tactic(auto)]
 
 ghost use Rattle.std.specs.Prelude.{◌≤◌, length, IfOk};
@@ -39,9 +40,9 @@ ghost use Rattle.transitions.specs.Edges.{AreGraphs};
 ghost use Rattle.rail_base.specs.declared.limits.TheConstants.{MAX_TABLE_BYTES};
 
 use anyhow::{Result, anyhow};
-use branch_tree::{BoundAnswer, Multipliers, Region, Relaxation, Weight};
+use branch_tree::{BoundAnswer, Cut, Multipliers, Region, Relaxation, Side, Weight};
 use price_bound::DayBounds;
-use rail_base::TripNo;
+use rail_base::{CompNo, TripNo};
 use rail_base::limits::MAX_TABLE_BYTES;
 use rail_csv::{links, stations, stock, trips, types, weights};
 use std::alloc::Global;
@@ -93,20 +94,35 @@ fn multipliers_of(alloc: Global, day: &Instance) -> Result<Multipliers> {
     Ok(multipliers)
 }
 
-/// The bound of the whole day, found so many times, and the picks.
+/// The region of all compositions, but for the first one alone on nine of ten trips.
+fn narrow_region(alloc: Global, day: &Instance) -> Result<Region> {
+    let mut region = Region::root(alloc, day)?;
+    for trip in 0..day.trips() {
+        let cut = Cut::Only {
+            trip: TripNo(trip),
+            comp: CompNo(0),
+        };
+        if trip % 10 != 0 && region.is_proper(day.catalogue(), &cut) {
+            region.cut(day.catalogue(), &cut, Side::Left);
+        }
+    }
+    Ok(region)
+}
+
+/// The bound of a region, found so many times, and the picks.
 fn bound(
     alloc: Global,
     day: &Instance,
+    region: &Region,
     multipliers: &Multipliers,
     times: u32,
 ) -> Result<(i128, u32)> {
     let graphs = Graphs::build(alloc, day)?;
     let mut bounds = DayBounds::new(alloc, day, &graphs)?;
-    let region = Region::root(alloc, day)?;
     let mut best = Picks::new(alloc, day.trips())?;
     let mut value: i128 = 0;
     for _ in 0..times {
-        value = value_of(&mut bounds, &region, multipliers, &mut best);
+        value = value_of(&mut bounds, region, multipliers, &mut best);
     }
     Ok((value, told(&best)))
 }
@@ -145,9 +161,11 @@ fn told(picks: &Picks) -> u32 {
 fn main(rt: HostRuntime) -> Result<()> {
     let mut times: u32 = 0;
     let mut is_priced = false;
+    let mut is_narrow = false;
     for word in env::args(&rt)? {
         times = times.wrapping_add(if word.as_str() == "bound" { 1 } else { 0 });
         is_priced = is_priced || word.as_str() == "priced";
+        is_narrow = is_narrow || word.as_str() == "narrow";
     }
     let day = day(&rt)?;
     let multipliers = if is_priced {
@@ -155,7 +173,12 @@ fn main(rt: HostRuntime) -> Result<()> {
     } else {
         Multipliers::new(rt.alloc())?
     };
-    let (value, picks) = bound(rt.alloc(), &day, &multipliers, times)?;
+    let region = if is_narrow {
+        narrow_region(rt.alloc(), &day)?
+    } else {
+        Region::root(rt.alloc(), &day)?
+    };
+    let (value, picks) = bound(rt.alloc(), &day, &region, &multipliers, times)?;
     println!(rt; "{value} {picks}")?;
     Ok(())
 }
