@@ -217,7 +217,7 @@ static int64_t least_of_all(void) {
 
 static void narrow(void) {
     for (int t = 0; t < trips; t++)
-        for (int c = 2; c <= comps && t % 10; c++) region[(size_t)t * (comps + 1) + c] = 0;
+        for (int c = 2; c <= comps && t % 10 != t / 10 % 10; c++) region[(size_t)t * (comps + 1) + c] = 0;
 }
 
 int main(int argc, char **argv) {

@@ -102,7 +102,7 @@ fn narrow_region(alloc: Global, day: &Instance) -> Result<Region> {
             trip: TripNo(trip),
             comp: CompNo(0),
         };
-        if trip % 10 != 0 && region.is_proper(day.catalogue(), &cut) {
+        if trip % 10 != trip / 10 % 10 && region.is_proper(day.catalogue(), &cut) {
             region.cut(day.catalogue(), &cut, Side::Left);
         }
     }

@@ -1,13 +1,15 @@
 -- Rows that are made by the members of a set of compositions, word by word.
 use Rattle.std.specs.Prelude.{ℕ, ◌≡◌, ◌<◌, ◌≤◌, ◌+◌, ◌/◌, ◌%◌, ◌^◌, ◌==◌, List, length, get_or, Bool, false}
-use Rattle.std.specs.Prelude.{Option, None, Some, IfSome, is_none, slice_index, ℤ, pos}
+use Rattle.std.specs.Prelude.{Option, None, Some, IfSome, is_none, slice_get, slice_index, ℤ, pos}
 use Rattle.timetable.specs.Links.{outgoing}
+use Rattle.transitions.specs.declared.edge.Edge.{Edge}
+use Rattle.transitions.specs.Edges.{AreGraphs}
 use Rattle.branch_tree.specs.declared.sets.TheConstants.{WORD_BITS}
 use Rattle.branch_tree.specs.Regions.{has}
 use Rattle.price_bound.specs.declared.cells.Cell.{Cell}
 use Rattle.price_bound.specs.declared.passes.PassedValues.{PassedValues}
 use Rattle.price_bound.specs.declared.priced_costs.PricedCosts.{PricedCosts}
-use Rattle.price_bound.specs.CellRows.{IsHeld, bare, cell_in, comps_of}
+use Rattle.price_bound.specs.CellRows.{IsHeld, bare, cell_in, comps_of, offered_from}
 use Rattle.price_bound.specs.CellSizes.{AreSmallCells, IsSmall, most_ahead, most_edge_price, most_offered, most_step}
 use Rattle.price_bound.specs.ChainStages.{Priced, priced_cost_of}
 use Rattle.price_bound.specs.HeldValues.{no_value}
@@ -67,6 +69,12 @@ passed_cell passed comp =
     with_priced_cost (priced_cost_of (priced_on passed.priced_costs.now) passed.priced_costs.now.trip comp)
     (cell_in (value_at passed.values.now comp))
 
+-- and by the edges of a link that leads on from the trip
+abbrev pub edge_cell : PricedCosts → ℕ → List (Option Cell) → ℕ → Option Cell
+edge_cell priced_costs link ahead comp =
+    with_priced_cost (priced_cost_of (priced_on priced_costs) priced_costs.trip comp)
+    (offered_from (priced_on priced_costs) (Some link) ahead comp)
+
 -- a cell is no more than a step from none, and from those ahead
 abbrev pub IsOneStepAt : Option Cell → Type 0
 IsOneStepAt cell = IfSome cell (λ it. IsSmall most_step it.value)
@@ -74,6 +82,18 @@ IsOneStepAt cell = IfSome cell (λ it. IsSmall most_step it.value)
 abbrev pub IsStepOn : List (Option Cell) → Option Cell → Type 0
 IsStepOn ahead cell =
     (bound : ℕ) → AreSmallCells bound ahead → IfSome cell (λ it. IsSmall (bound + most_step) it.value)
+
+-- the edges are those of the link that leads on from the trip
+pub record IsForEdges (OfLink : Type 0) (priced : Priced) (link : ℕ) (edges : List Edge) (priced_costs : PricedCosts)
+    (ahead : List (Option Cell)) : Type 0 where
+  pub of_link : OfLink
+  pub of_trip : IsForTrip priced_costs
+  pub priced_is : priced_on priced_costs ≡ priced
+  pub leads : outgoing priced.day priced_costs.trip ≡ Some link
+  pub graphs : AreGraphs priced.day priced.graphs
+  pub edges_are : slice_get priced.graphs link ≡ Some edges
+  pub long : length ahead ≡ comps_of priced
+  pub small : AreSmallCells most_ahead ahead
 
 -- the values are those that the passes found for a trip from which a link leads on
 pub record IsForPassed (passed : PassedValues) : Type 0 where

@@ -346,15 +346,16 @@ fn fill_by_link(
     ensures row { row.new ≡ all_bare (row_on (priced_by pricing.now) trip ahead.now) }
     ensures small { IsSmallStep most_step ahead.now row.new }
 {
-    let link_at = pricing.instance.link(link);
-    let Some(turn) = plain_turn(link_at) else {
-        fill_by_prices(pricing, trip, link, row, ahead);
-        return;
-    };
-    if is_narrow(pricing, trip) {
-        fill_by_prices(pricing, trip, link, row, ahead);
+    let is_narrow = is_narrow(pricing, trip);
+    if is_narrow {
+        fill_by_prices(pricing, trip, link, is_narrow, row, ahead);
         return;
     }
+    let link_at = pricing.instance.link(link);
+    let Some(turn) = plain_turn(link_at) else {
+        fill_by_prices(pricing, trip, link, is_narrow, row, ahead);
+        return;
+    };
     let priced_costs = PricedCosts::new(&*pricing, trip);
     let passes = Passes::new(pricing, link, turn);
     fill_by_passes(&passes, &priced_costs, row, ahead, pass_room);
@@ -392,11 +393,13 @@ fn plain_turn(link: &Link) -> Option<PlainTurn>
     })
 }
 
-/// Makes the row of a trip from which this link leads on, by the prices of its edges.
+/// Makes the row of a trip from which this link leads on, by the prices of its edges; of those from the members of the
+/// trip's set alone, where the region has few compositions for the trip.
 fn fill_by_prices(
     pricing: &Pricing<'_>,
     trip: TripNo,
     link: LinkNo,
+    is_narrow: bool,
     row: &mut CellRow,
     ahead: &CellRow,
 )
@@ -421,11 +424,11 @@ fn fill_by_prices(
                 couple: kind.coupling_end(),
             };
             let prices = TurnPrices::new(pricing, link, turn);
-            fill_by_edges(&prices, edges, &priced_costs, row, ahead);
+            fill_by_edges(&prices, edges, &priced_costs, is_narrow, row, ahead);
         }
         Some(second) => {
             let prices = PartPrices::new(pricing, link, second);
-            fill_by_edges(&prices, edges, &priced_costs, row, ahead);
+            fill_by_edges(&prices, edges, &priced_costs, is_narrow, row, ahead);
         }
     }
 }

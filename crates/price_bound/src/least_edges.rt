@@ -13,12 +13,15 @@ ghost use Rattle.price_bound.specs.ChainStages.{price_of, priced_cost_of};
 ghost use Rattle.price_bound.specs.EdgeGroups.{IsAtGroup, IsGroupPlace, IsInGroup};
 ghost use Rattle.price_bound.specs.Paths.{offer_by, with_priced_cost};
 ghost use Rattle.price_bound.specs.Pricing.{IsListed, priced_by};
+ghost use Rattle.price_bound.specs.RowValues.{IsForEdges, IsStepOn, edge_cell, is_had, priced_on};
 ghost use Rattle.price_bound.specs.TripAndLinkPrices.{IsForTrip};
 
-use crate::cells::{Cell, CellRow, lower_cell, offer_by, with_priced_cost};
+use crate::cells::{Cell, CellRow, lower_cell, offer_by, value_of, with_priced_cost};
 use crate::edge_prices::EdgePrices;
 use crate::priced_costs::PricedCosts;
+use crate::row_values::RowValues;
 use rail_base::CompNo;
+use rail_base::limits::MAX_COMPOSITIONS;
 use transitions::Edge;
 
 /// What is found among the edges from one composition.
@@ -30,8 +33,40 @@ pub(crate) struct Least {
     pub end: usize,
 }
 
-/// Makes the row of a trip from which a link leads on, by the edges of the link.
-pub(crate) fn fill_by_edges<P: EdgePrices>(
+/// What stands in the row of a trip, by the edges that lead on from the compositions of its set.
+#[derive(Drop)]
+pub(crate) struct EdgeValues<'a, P> {
+    /// What prices the edges.
+    pub prices: &'a P,
+    /// The edges.
+    pub edges: &'a [Edge],
+    /// What compositions cost on the trip.
+    pub priced_costs: &'a PricedCosts<'a>,
+    /// The row of the next trip.
+    pub ahead: &'a CellRow,
+}
+
+impl<'a, P: EdgePrices> RowValues for EdgeValues<'a, P> {
+    ghost comps = { λ values. comps_of (priced_on values.priced_costs.now) };
+
+    ghost member = { λ values. is_had values.priced_costs.now };
+
+    ghost cell = { λ values. edge_cell values.priced_costs.now (P.link values.prices.now) values.ahead.now };
+
+    ghost IsFew = { λ values. IsStepOn values.ahead.now };
+
+    ghost are_of_trip = { λ values. IsForEdges (P.are_of_link values.prices.now) (P.priced values.prices.now)
+        (P.link values.prices.now) values.edges.now values.priced_costs.now values.ahead.now };
+
+    fn value(&self, comp: CompNo) -> i64 {
+        let least =
+            least_with_priced_cost(self.prices, self.edges, self.priced_costs, comp, 0, self.ahead);
+        value_of(least.cell)
+    }
+}
+
+/// Makes the row of a trip from which a link leads on, by the edges of the link from the members of the trip's set.
+fn fill_by_members<P: EdgePrices>(
     prices: &P,
     edges: &[Edge],
     priced_costs: &PricedCosts<'_>,
@@ -50,6 +85,42 @@ pub(crate) fn fill_by_edges<P: EdgePrices>(
     ensures row { row.new ≡ all_bare (row_on (P.priced prices.now) priced_costs.now.trip ahead.now) }
     ensures small { IsSmallStep most_step ahead.now row.new }
 {
+    prove!(priced_costs.pricing.instance.catalogue().len() as usize <= MAX_COMPOSITIONS);
+    let values = EdgeValues {
+        prices,
+        edges,
+        priced_costs,
+        ahead,
+    };
+    row.fill(&values, priced_costs.set);
+}
+
+/// Makes the row of a trip from which a link leads on, by the edges of the link. Where the region has few compositions
+/// for the trip, those of its set are gone through alone.
+pub(crate) fn fill_by_edges<P: EdgePrices>(
+    prices: &P,
+    edges: &[Edge],
+    priced_costs: &PricedCosts<'_>,
+    is_narrow: bool,
+    row: &mut CellRow,
+    ahead: &CellRow,
+)
+    requires prices { P.are_of_link prices.now }
+    requires graphs { AreGraphs (P.priced prices.now).day (P.priced prices.now).graphs }
+    requires edges { slice_get (P.priced prices.now).graphs (P.link prices.now) ≡ Some edges.now }
+    requires priced_costs { IsForTrip priced_costs.now }
+    requires priced { priced_by priced_costs.now.pricing.now ≡ P.priced prices.now }
+    requires link { outgoing (P.priced prices.now).day priced_costs.now.trip ≡ Some (P.link prices.now) }
+    requires row { length row.old ≡ comps_of (P.priced prices.now) }
+    requires ahead { length ahead.now ≡ comps_of (P.priced prices.now) }
+    requires small { AreSmallCells most_ahead ahead.now }
+    ensures row { row.new ≡ all_bare (row_on (P.priced prices.now) priced_costs.now.trip ahead.now) }
+    ensures small { IsSmallStep most_step ahead.now row.new }
+{
+    if is_narrow {
+        fill_by_members(prices, edges, priced_costs, row, ahead);
+        return;
+    }
     let mut begin = 0;
     for comp in 0..priced_costs.pricing.instance.catalogue().len() {
         let least = least_with_priced_cost(prices, edges, priced_costs, CompNo(comp), begin, ahead);
