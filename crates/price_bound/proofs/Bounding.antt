@@ -8,8 +8,9 @@ use Rattle.branch_tree.specs.Bounds.{IsBound}
 use Rattle.branch_tree.specs.declared.relaxation.BoundAnswer.TheVariants.{Empty, Value}
 use Rattle.branch_tree.specs.Meanings as meanings
 use Rattle.price_bound.specs.ChainStages.{Priced, AreFirstPaths}
-use Rattle.price_bound.specs.FirstPaths.{IsPricedBy, LacksPath}
+use Rattle.price_bound.specs.FirstPaths.{LacksPath}
 use Rattle.price_bound.specs.Regrouped.{constant_of}
+use Rattle.price_bound.proofs.Regrouped.{IsPricedBy}
 use Rattle.price_bound.proofs.PathChoice.{choice, empty, value_is}
 
 module _ (problem : meanings.Meanings) (priced : Priced) (is : IsPricedBy problem priced) (links : AreLinks priced.day) (graphs : AreGraphs priced.day priced.graphs)

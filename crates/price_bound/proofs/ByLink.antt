@@ -8,8 +8,7 @@ use Rattle.rules.specs.declared.records.LinkKind.{LinkKind}
 use Rattle.timetable.specs.Accepted.{times_named}
 use Rattle.timetable.specs.Lists.{count_of}
 use Rattle.timetable.proofs.NamedTrips.{named_twice}
-use Rattle.price_bound.specs.IntBelow.{int_below}
-use Rattle.price_bound.proofs.IntLaws.{below_none, below_placed, below_same, only_at, only_here, only_other}
+use Rattle.price_bound.proofs.IntLaws.{below_none, below_placed, below_same, int_below, only_at, only_here, only_other}
 use Rattle.price_bound.proofs.IntLaws.{only_within}
 use Rattle.price_bound.proofs.Steps.{entry_below}
 use Rattle.std.proofs.lemmas.Option.{slice_get_within}

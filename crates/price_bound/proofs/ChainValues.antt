@@ -27,12 +27,13 @@ use Rattle.price_bound.specs.ChainStages.{price_of, stage_of, stages_of, priced_
 use Rattle.price_bound.specs.EdgeValues.{edge_value}
 use Rattle.price_bound.specs.FollowingPicks.{IsStep, pick_of}
 use Rattle.price_bound.specs.Paths.{IsPath, IsStepAt}
-use Rattle.price_bound.specs.Regrouped.{trip_value, value_at_link}
+use Rattle.price_bound.specs.Regrouped.{trip_value}
 use Rattle.price_bound.proofs.ByLink.{adds_none, adds_one, adds_to}
 use Rattle.price_bound.proofs.EdgeValues.{edge_is}
 use Rattle.price_bound.proofs.IntLaws.{only_at, only_here}
 use Rattle.price_bound.proofs.Regrouping.{from_named, to_named}
 use Rattle.price_bound.proofs.Solving.{list_picked}
+use Rattle.price_bound.proofs.Regrouped.{value_at_link}
 use Rattle.price_bound.proofs.Steps.{entry_below}
 
 -- what picks that are near a region are on a trip: the trip's pick may run and is in the region

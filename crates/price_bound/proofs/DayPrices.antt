@@ -11,11 +11,11 @@ use Rattle.branch_tree.specs.Meanings.{weighted}
 use Rattle.price_bound.specs.ChainStages.{Priced, cost_on}
 use Rattle.price_bound.specs.ChangedDays.{AreChanges, added_cost, changed_day, changed_meanings}
 use Rattle.price_bound.specs.Changes.{change_cost, changed_cost}
-use Rattle.price_bound.specs.FirstPaths.{IsPricedBy}
 use Rattle.price_bound.specs.FollowingPicks.{pick_of}
 use Rattle.price_bound.specs.Slacks.{slack_of}
 use Rattle.price_bound.proofs.ChangedCosts.{added_by_trips}
 use Rattle.price_bound.proofs.Regrouping.{are_regrouped}
+use Rattle.price_bound.proofs.Regrouped.{IsPricedBy}
 use Rattle.price_bound.proofs.Solving.{list_picked}
 
 module _ (priced : Priced) (links : AreLinks priced.day) (are : AreChanges priced.day priced.changes) where

@@ -43,9 +43,10 @@ use Rattle.branch_tree.specs.Meanings.{weighted}
 use Rattle.price_bound.specs.EdgeValues.{coupled, coupling_value, edge_value, part_multiplier, part_value, shunt_cost}
 use Rattle.price_bound.specs.EdgeValues.{stayed, stays_by, turn_value, uncoupling_value}
 use Rattle.price_bound.specs.FollowingPicks.{part_by}
-use Rattle.price_bound.specs.Regrouped.{of_handover, part_price, value_at_link}
+use Rattle.price_bound.specs.Regrouped.{of_handover}
 use Rattle.price_bound.specs.YardPrices.{by_place, giving, taking, yard_price}
 use Rattle.price_bound.proofs.IntLaws.{sum_append, sum_none, sum_same}
+use Rattle.price_bound.proofs.Regrouped.{part_price, value_at_link}
 use Rattle.price_bound.proofs.Solving.{IsPart, part_is, same_number}
 
 -- ---- units that stay and go

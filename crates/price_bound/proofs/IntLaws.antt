@@ -7,7 +7,11 @@ use Rattle.std.proofs.lemmas.Bool.{cases_eq, eq-eqb, ne_eqb}
 use Rattle.std.proofs.lemmas.Int.{ints}
 use lib.IntN.{ℤ_ind, suc_ℤ-*ℤ, pred_ℤ-*ℤ, +ℤ_one, -ℤ_one, zero-*ℤ}
 use Rattle.branch_tree.specs.IntSums.{int_sum}
-use Rattle.price_bound.specs.IntBelow.{int_below}
+
+-- the sum of f over the numbers below a bound
+abbrev pub int_below : (ℕ → ℤ) → ℕ → ℤ
+int_below f zero = pos 0
+int_below f (suc n) = int_below f n +ℤ f n
 
 -- ---- products
 

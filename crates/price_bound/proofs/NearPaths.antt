@@ -22,19 +22,20 @@ use Rattle.transitions.specs.Edges.{AreGraphs, IsEdge, IsKindEdge}
 use Rattle.branch_tree.specs.Regions.{has}
 use Rattle.branch_tree.specs.IntSums.{int_sum}
 use Rattle.branch_tree.proofs.Lying.{picks_lie_by_trip}
-use Rattle.price_bound.specs.ChainStages.{Priced, cost_on, ArePaths, part_is_in}
+use Rattle.price_bound.specs.ChainStages.{Priced, cost_on, part_is_in}
 use Rattle.price_bound.specs.DayMeanings.{one_after_another}
 use Rattle.price_bound.specs.FollowingPicks.{IsStep, part_of}
-use Rattle.price_bound.specs.IntBelow.{int_below}
 use Rattle.price_bound.specs.Near.{AreNear, LieIn}
-use Rattle.price_bound.specs.Regrouped.{constant_of, link_value, regrouped}
+use Rattle.price_bound.specs.Regrouped.{constant_of}
 use Rattle.price_bound.proofs.ByLink.{adds_all}
 use Rattle.price_bound.proofs.ChainValues.{AreBelow, HasPath, IsNearAlong, IsNearAt, IsNearInto, IsNearOn, into}
 use Rattle.price_bound.proofs.ChainValues.{into_none, near_path, path_near, total_on, value_of_link, priced_cost_on}
-use Rattle.price_bound.proofs.IntLaws.{below_add, below_none, below_same, only_at, only_here, only_other, only_within}
+use Rattle.price_bound.proofs.IntLaws.{below_add, below_none, below_same, int_below, only_at, only_here, only_other, only_within}
 use Rattle.price_bound.proofs.IntLaws.{sum_append}
 use Rattle.price_bound.proofs.Ordering.{count_joined}
 use Rattle.price_bound.proofs.Regrouping.{to_named}
+use Rattle.price_bound.proofs.Regrouped.{link_value, regrouped}
+use Rattle.price_bound.proofs.Products.{ArePaths}
 use Rattle.price_bound.proofs.Solving.{IsPart, LeadWithin, lead_within, list_picked, part_is, same_number}
 
 -- ---- a sum over all trips is one over a list that has each once

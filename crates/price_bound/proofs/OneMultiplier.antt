@@ -26,11 +26,10 @@ use Rattle.std.proofs.lemmas.Option.{slice_get_within, get_or_from_slice_get}
 use Rattle.inventory.specs.Counts.{takes_of, gives_of, taken_until, ready_until, all_taken, all_given}
 use Rattle.branch_tree.specs.IntSums.{int_sum}
 use Rattle.price_bound.specs.FollowingPicks.{part_of, pick_of}
-use Rattle.price_bound.specs.IntBelow.{int_below}
 use Rattle.price_bound.specs.Regrouped.{constant_by, of_handover}
 use Rattle.price_bound.specs.Slacks.{handover_slack, is_part, one_if, slack_at}
 use Rattle.price_bound.specs.YardPrices.{of_type, price_by}
-use Rattle.price_bound.proofs.IntLaws.{below_add, below_neg, below_none, below_same, below_times, only_at, only_here}
+use Rattle.price_bound.proofs.IntLaws.{below_add, below_neg, below_none, below_same, below_times, int_below, only_at, only_here}
 use Rattle.price_bound.proofs.IntLaws.{only_other, only_within, sum_none, times_add, times_neg, times_none, times_one}
 
 -- ---- counted units

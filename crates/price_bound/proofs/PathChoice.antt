@@ -12,15 +12,15 @@ use Rattle.timetable.proofs.Ones.{one_other}
 use Rattle.transitions.specs.Edges.{AreGraphs}
 use Rattle.branch_tree.specs.Bounds.{IsChoice, IsEmpty, Precedes, in_order}
 use Rattle.branch_tree.specs.Meanings as meanings
-use Rattle.price_bound.specs.ChainStages.{Priced, along, AreFirstPaths, ArePaths, stages_of}
+use Rattle.price_bound.specs.ChainStages.{Priced, along, AreFirstPaths, stages_of}
 use Rattle.price_bound.specs.DayMeanings.{one_after_another, trips_by_chain}
-use Rattle.price_bound.specs.FirstPaths.{IsPricedBy}
 use Rattle.price_bound.specs.FollowingPicks.{pick_of}
 use Rattle.price_bound.specs.Paths.{IsNoLaterPath, IsPath}
 use Rattle.price_bound.specs.Regrouped.{constant_of}
 use Rattle.price_bound.proofs.NearPaths.{HavePaths, near_have_paths, paths_are_near, paths_value, regrouped_is}
 use Rattle.price_bound.proofs.Ordering.{count_joined}
-use Rattle.price_bound.proofs.Products.{first_are_paths, first_of_all}
+use Rattle.price_bound.proofs.Regrouped.{IsPricedBy}
+use Rattle.price_bound.proofs.Products.{ArePaths, first_are_paths, first_of_all}
 
 -- ---- picks that are the same along a list
 

@@ -5,10 +5,18 @@ use Rattle.std.proofs.Common.{◌∙◌, subst, arith, ℤ, pos, ◌+ℤ◌, ◌
 use Rattle.std.proofs.lemmas.Bool.{and_from, and_parts, eq-eqb, or_cases, or_left, or_right}
 use Rattle.std.proofs.lemmas.Int.{ints, by_lt_z}
 use Rattle.compositions.specs.Catalogue.{is_lower}
-use Rattle.price_bound.specs.ChainStages.{Priced, along, AreFirstPaths, ArePaths}
+use Rattle.price_bound.specs.ChainStages.{Priced, along, AreFirstPaths, stages_of}
 use Rattle.price_bound.specs.DayMeanings.{one_after_another}
 use Rattle.price_bound.specs.FollowingPicks.{pick_of}
 use Rattle.price_bound.specs.Paths.{IsNoLaterPath}
+use Rattle.price_bound.specs.Paths.{IsPath}
+
+-- along each chain the picks are a path, and the values of all of them add up
+abbrev pub ArePaths : Priced → List (List ℕ) → List ℕ → ℤ → Type 0
+ArePaths priced [] picks value = value ≡ pos 0
+ArePaths priced (chain ∷ chains) picks value =
+    (here rest : ℤ) × IsPath (stages_of priced chain) (along picks chain) here × ArePaths priced chains picks rest
+    × (value ≡ here +ℤ rest)
 
 -- ---- lists in order, one after another
 

@@ -26,14 +26,13 @@ use Rattle.branch_tree.specs.declared.relaxation.Weight.TheVariants.{Cost, NoCos
 use Rattle.branch_tree.specs.IntSums.{int_sum}
 use Rattle.branch_tree.specs.Meanings.{weighted}
 use Rattle.price_bound.specs.FollowingPicks.{part_of, pick_of}
-use Rattle.price_bound.specs.IntBelow.{int_below}
-use Rattle.price_bound.specs.Regrouped.{AreRegrouped, constant_of, link_value, part_price, regrouped, second_price}
-use Rattle.price_bound.specs.Regrouped.{trip_value, value_at_link}
+use Rattle.price_bound.specs.Regrouped.{constant_of, second_price, trip_value}
 use Rattle.price_bound.specs.Slacks.{slack_of}
 use Rattle.price_bound.specs.YardPrices.{giving, taking}
 use Rattle.price_bound.proofs.ByLink.{adds_all, adds_at, adds_none, adds_one, adds_to}
-use Rattle.price_bound.proofs.IntLaws.{below_add, below_neg, below_none, below_same, only_at, only_here, only_none}
+use Rattle.price_bound.proofs.IntLaws.{below_add, below_neg, below_none, below_same, int_below, only_at, only_here, only_none}
 use Rattle.price_bound.proofs.SlackSums.{at_link, at_trips, slacks_total}
+use Rattle.price_bound.proofs.Regrouped.{AreRegrouped, link_value, part_price, regrouped, value_at_link}
 use Rattle.price_bound.proofs.Solving.{LeadWithin, lead_within, list_picked}
 
 -- ---- the links' trips

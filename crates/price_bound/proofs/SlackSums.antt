@@ -14,12 +14,12 @@ use Rattle.timetable.specs.Picks.{picked}
 use Rattle.branch_tree.specs.declared.multipliers.Entry.{Entry}
 use Rattle.branch_tree.specs.IntSums.{int_sum}
 use Rattle.price_bound.specs.FollowingPicks.{part_of, pick_of}
-use Rattle.price_bound.specs.IntBelow.{int_below}
-use Rattle.price_bound.specs.Regrouped.{constant_by, constant_of, of_handover, part_price, second_price}
+use Rattle.price_bound.specs.Regrouped.{constant_by, constant_of, of_handover, second_price}
 use Rattle.price_bound.specs.Slacks.{slack_at, slack_of}
 use Rattle.price_bound.specs.YardPrices.{by_place, giving, price_by, taking, yard_price}
-use Rattle.price_bound.proofs.IntLaws.{below_none, below_same, below_sums, sum_add, sum_neg, sum_none, sum_same}
+use Rattle.price_bound.proofs.IntLaws.{below_none, below_same, below_sums, int_below, sum_add, sum_neg, sum_none, sum_same}
 use Rattle.price_bound.proofs.IntLaws.{sum_sums, times_none}
+use Rattle.price_bound.proofs.Regrouped.{part_price}
 use Rattle.price_bound.proofs.OneMultiplier.{has_part, is_second, place_taken}
 
 module _ (day : Day) (picks : List ℕ) (links : AreLinks day) where

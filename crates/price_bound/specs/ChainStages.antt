@@ -16,7 +16,7 @@ use Rattle.price_bound.specs.declared.changes.Change.{Change}
 use Rattle.price_bound.specs.Changes.{changed_cost}
 use Rattle.price_bound.specs.EdgeValues.{edge_value}
 use Rattle.price_bound.specs.FollowingPicks.{pick_of}
-use Rattle.price_bound.specs.Paths.{Stage, IsFirstPath, IsPath}
+use Rattle.price_bound.specs.Paths.{Stage, IsFirstPath}
 use Rattle.price_bound.specs.Regrouped.{trip_value}
 
 -- what is priced: a day and its edges, under changes; the multipliers and their weight; and the region
@@ -77,13 +77,6 @@ stages_of priced chain = map (stage_of priced) chain
 
 abbrev pub along : List ℕ → List ℕ → List ℕ
 along picks chain = map (pick_of picks) chain
-
--- along each chain the picks are a path, and the values of all of them add up
-abbrev pub ArePaths : Priced → List (List ℕ) → List ℕ → ℤ → Type 0
-ArePaths priced [] picks value = value ≡ pos 0
-ArePaths priced (chain ∷ chains) picks value =
-    (here rest : ℤ) × IsPath (stages_of priced chain) (along picks chain) here × ArePaths priced chains picks rest
-    × (value ≡ here +ℤ rest)
 
 -- along each chain the picks are the first path of least value
 abbrev pub AreFirstPaths : Priced → List (List ℕ) → List ℕ → ℤ → Type 0
