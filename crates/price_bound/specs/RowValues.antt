@@ -95,7 +95,7 @@ pub record IsForEdges (OfLink : Type 0) (priced : Priced) (link : ℕ) (edges : 
   pub long : length ahead ≡ comps_of priced
   pub small : AreSmallCells most_ahead ahead
 
--- the values are those that the passes found for a trip from which a link leads on
+-- there is a value for each composition of a trip from which a link leads on, and they are small
 pub record IsForPassed (passed : PassedValues) : Type 0 where
   pub of_trip : IsForTrip passed.priced_costs.now
   pub leads : is_none (outgoing (priced_on passed.priced_costs.now).day passed.priced_costs.now.trip) ≡ false

@@ -59,8 +59,14 @@ impl<'a, P: EdgePrices> RowValues for EdgeValues<'a, P> {
         (P.link values.prices.now) values.edges.now values.priced_costs.now values.ahead.now };
 
     fn value(&self, comp: CompNo) -> i64 {
-        let least =
-            least_with_priced_cost(self.prices, self.edges, self.priced_costs, comp, 0, self.ahead);
+        let least = least_with_priced_cost(
+            self.prices,
+            self.edges,
+            self.priced_costs,
+            comp,
+            0,
+            self.ahead,
+        );
         value_of(least.cell)
     }
 }
