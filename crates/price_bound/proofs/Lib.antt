@@ -19,6 +19,7 @@ mod IntLaws
 mod OneMultiplier
 mod ByLink
 mod SlackSums
+mod Regrouped
 mod Regrouping
 mod Offers
 mod Rows

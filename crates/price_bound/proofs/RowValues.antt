@@ -131,18 +131,6 @@ no_members member begin tells k from to =
     let place : begin + (k - begin) ≡ k = omega (arith, from) in
     ap member (sym place) ∙ tells (k - begin) (omega (arith, from, to)) ∙ ap (λ (d : ℕ). eqb (d % 2) 1) (zero-div (2 ^ (k - begin)))
 
--- words tell of the compositions of one word more, where its lowest bits are 1
-pub tells_more : (words : List ℕ) (place ones : ℕ) → TellsAll words (place * 64) → ones ≤ 64
-    → ((bit : ℕ) → bit < ones → slice_index words place / 2 ^ bit % 2 ≡ 1) → TellsAll words (place * 64 + ones)
-tells_more words place ones told few are comp below = elim (cases_lt comp (place * 64)) [
-  | inl before ↦ told comp before
-  | inr after ↦
-      let at : comp / 64 ≡ place = omega (arith, after, below, few) in
-      let bit : comp % 64 ≡ comp - place * 64 = omega (arith, after, below, few) in
-      ap (λ (p : ℕ). slice_index words p / 2 ^ (comp % 64) % 2) at ∙ ap (λ (i : ℕ). slice_index words place / 2 ^ i % 2) bit
-      ∙ are (comp - place * 64) (omega (arith, after, below))
-]
-
 -- a bit tells of a composition
 pub bit_tells : (member : ℕ → Bool) (begin word comp left : ℕ) → TellsMembers member begin word → begin ≤ comp → comp < begin + 64
     → left ≡ word / 2 ^ (comp - begin) → member comp ≡ eqb (left % 2) 1

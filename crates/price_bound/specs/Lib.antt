@@ -17,7 +17,6 @@ pub mod Sizes
 -- plans of named units
 pub mod PlanBounds
 -- the priced value, regrouped over trips and links
-pub mod IntBelow
 pub mod YardPrices
 pub mod Regrouped
 -- changed costs
