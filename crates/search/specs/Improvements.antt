@@ -71,7 +71,7 @@ shown_plan (Some incumbent) = Some (record { cost = incumbent.cost.0; picks = in
 
 -- what is shown to an improver of a node: its region, what its kept evaluation gave, the slacks of the kept picks, and
 -- the best solution
-pub record IsSeenOf (problem : Meanings) (number made : ℕ) (best : Option CostedPicks) (work : Work) (seen : Seen)
+pub record IsSeenOf (problem : Meanings) (number made : ℕ) (plan : Option CostedPicks) (work : Work) (seen : Seen)
     : Type 0 where
   pub node : seen.node ≡ number
   pub attempt : seen.attempt ≡ made
@@ -80,5 +80,5 @@ pub record IsSeenOf (problem : Meanings) (number made : ℕ) (best : Option Cost
   pub multipliers : seen.multipliers.now ≡ work.kept.multipliers
   pub picks : seen.picks.now ≡ work.kept.picks
   pub slacks : AreSlacks problem work.kept.picks seen.slacks.now
-  pub best : shown_plan seen.best ≡ best
+  pub best : shown_plan seen.best ≡ plan
   pub free_from : seen.free_from ≡ problem.free_from
