@@ -13,11 +13,17 @@ use Rattle.advisors.specs.declared.advisor.Look.{Look}
 use Rattle.advisors.specs.EntriesByIndex.{below, from_on}
 use Rattle.advisors.specs.Proposed.{Proposed}
 use Rattle.advisors.specs.Proposals.{refusal_of}
-use Rattle.advisors.specs.Puts.{merged, moved_entry, with_entries}
+use Rattle.advisors.specs.Puts.{moved_entry, with_entries}
 use Rattle.advisors.specs.SteppedProposals.{IsStepped, at_turn, moved_at, stepped}
 use Rattle.advisors.proofs.EntryLists.{all_below, all_from_on, is_entered-append, is_entered-filtered, not_entered-filtered, lt-is, lt-is-not, le-is, le-is-not}
 use Rattle.advisors.proofs.EntryLists.{rising-join, rising-filtered, value_at-filtered, value_at-skip, value_at-stop}
 use Rattle.advisors.proofs.Turns.{entries-keep, stands_at_each, with_entries-append}
+
+-- multipliers and moved ones by rising index; of an index that has both, the moved one
+abbrev pub merged : Look → List Entry → List Entry → List Entry
+merged look multipliers [] = multipliers
+merged look multipliers (slack ∷ slacks) = below slack.index multipliers ++
+    moved_entry look slack ∷ merged look (from_on (slack.index + 1) multipliers) slacks
 
 merged-from : (look : Look) (k : ℕ) (entries slacks : List Entry) → All (λ e. k ≤ e.index) entries → All (λ e. k ≤ e.index) slacks → All (λ e. k ≤ e.index) (merged look entries slacks)
 merged-from look k entries [] high slack_high = high

@@ -1,5 +1,5 @@
 -- Entries that are put into a proposal one after another, and the order in which the subgradient puts them.
-use Rattle.std.specs.Prelude.{ℕ, ◌+◌, ◌≤◌, ◌≡◌, List, [], ◌∷◌, ◌++◌, if◌then◌else◌, length, take, drop}
+use Rattle.std.specs.Prelude.{ℕ, ◌≤◌, ◌≡◌, List, [], ◌∷◌, if◌then◌else◌, length, take, drop}
 use Rattle.std.specs.Option.{is_none}
 use Rattle.branch_tree.specs.declared.multipliers.Entry.{Entry}
 use Rattle.branch_tree.specs.Entries.{put_in}
@@ -23,12 +23,6 @@ with_entries proposal (entry ∷ entries) = with_entries (with_entry proposal en
 -- the last multiplier of the index of a slack, moved along the slack
 abbrev pub moved_entry : Look → Entry → Entry
 moved_entry look slack = record { index = slack.index; value = moved_at look slack.index slack.value }
-
--- multipliers and moved ones by rising index; of an index that has both, the moved one
-abbrev pub merged : Look → List Entry → List Entry → List Entry
-merged look multipliers [] = multipliers
-merged look multipliers (slack ∷ slacks) = below slack.index multipliers ++
-    moved_entry look slack ∷ merged look (from_on (slack.index + 1) multipliers) slacks
 
 -- entries are divided before a place: those of indices below this one stand before it, and the others from it on
 pub record AreDividedAt (entries : List Entry) (index place : ℕ) : Type 0 where

@@ -8,10 +8,6 @@ use Rattle.advisors.specs.MultiplierSteps.{moved, step_of}
 use Rattle.advisors.specs.Proposals.{refusal_of}
 use Rattle.advisors.specs.Proposed.{Proposed}
 
--- whether an index has a slack or a multiplier, so that it is proposed at all
-abbrev pub is_proposed : Look → ℕ → Bool
-is_proposed look index = is_entered look.slacks.now index || is_entered look.multipliers.now index
-
 -- the last multiplier of an index, moved along its slack
 abbrev pub moved_at : Look → ℕ → ℤ → ℤ
 moved_at look index slack =
@@ -30,10 +26,11 @@ abbrev pub at_turn : Proposed → Proposed → ℕ → Proposed
 at_turn before after index =
     record before { multipliers = below index after.multipliers ++ from_on index before.multipliers }
 
--- whether an index is proposed, and its multiplier after the step isn't refused when its turn comes
+-- whether an index has a slack or a multiplier, and its multiplier after the step isn't refused when its turn comes
 abbrev pub is_put : Look → Proposed → Proposed → ℕ → Bool
 is_put look before after index =
-    is_proposed look index && is_none (refusal_of (at_turn before after index) index (stepped look index))
+    (is_entered look.slacks.now index || is_entered look.multipliers.now index)
+    && is_none (refusal_of (at_turn before after index) index (stepped look index))
 
 -- a proposal after the step: at each index that is put it has the multiplier after the step, and at each other one what
 -- stood there before

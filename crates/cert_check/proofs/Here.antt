@@ -7,11 +7,18 @@ use Rattle.branch_tree.specs.Meanings.{Meanings}
 use Rattle.branch_tree.specs.Trees.{IsWhole, cut_of, nodes_in, regions_below}
 use Rattle.cert_check.specs.declared.path.TakenSide.{TakenSide}
 use Rattle.cert_check.specs.declared.verdict.Reason.{Reason}
-use Rattle.cert_check.specs.Paths.{root_from, left_in, AreTaken, IsAtFirst, IsLed}
+use Rattle.cert_check.specs.Paths.{root_from, left_in, AreTaken, IsAtFirst}
 use Rattle.cert_check.specs.Reasons.{node_tests, tests_from}
 use Rattle.cert_check.specs.Tests.{FirstFails}
 use Rattle.cert_check.proofs.OnTheWay.{IsOnWay, HasNext, has_next, way_begins, goes_on_at, stops_at}
 use Rattle.cert_check.proofs.Retracing.{length-root_from, taken_inside}
+
+-- the sides led from a root to the first of the regions to come, and their marks lead back
+pub record IsLed (catalogue : List (List ℕ)) (regions : List (List (List Bool))) (root : List (List Bool))
+    (taken : List TakenSide) (region : List (List Bool)) : Type 0 where
+  pub first : IsAtFirst catalogue regions taken region
+  pub back : root_from taken region ≡ root
+  pub marks : AreTaken catalogue taken region
 
 pub record IsHere (problem : Meanings) (root : List (List Bool)) (all : List Node) (number : ℕ) (taken : List TakenSide) (region : List (List Bool)) : Type 0 where
   pub regions : List (List (List Bool))

@@ -39,10 +39,3 @@ AreTaken catalogue (one ∷ taken) region =
 abbrev pub IsAtFirst : List (List ℕ) → List (List (List Bool)) → List TakenSide → List (List Bool) → Type 0
 IsAtFirst catalogue [] taken region = taken ≡ []
 IsAtFirst catalogue (next ∷ regions) taken region = (region ≡ next) × (left_in catalogue taken region ≡ regions)
-
--- the sides led from a root to the first of the regions to come, and their marks lead back
-pub record IsLed (catalogue : List (List ℕ)) (regions : List (List (List Bool))) (root : List (List Bool))
-    (taken : List TakenSide) (region : List (List Bool)) : Type 0 where
-  pub first : IsAtFirst catalogue regions taken region
-  pub back : root_from taken region ≡ root
-  pub marks : AreTaken catalogue taken region

@@ -16,11 +16,11 @@ use Rattle.command_line.specs.declared.form.OptionName.TheVariants.{Nodes, Round
 use Rattle.command_line.specs.declared.form.Form.{Form}
 use Rattle.command_line.specs.declared.form.Form.TheVariants.{Folder, FolderSearch, DaySearch}
 use Rattle.command_line.specs.Forms.{SaysItems, form_of, items_said, search_options}
-use Rattle.command_line.specs.Parts.{fits, is_whole, parts_of, places, times}
+use Rattle.command_line.specs.Parts.{fits, parts_of, places, times}
 use Rattle.command_line.specs.Texts.{Texts, said, texts_of}
 use Rattle.command_line.proofs.OptionItems.{Item, Positional, TwoWords, OneWord, HaveTheirForm, option_name}
 use Rattle.command_line.proofs.OptionItems.{positional_in, value_before, values_in, words_of}
-use Rattle.command_line.proofs.PlainForms.{Made, cases, clean, made, parts_are}
+use Rattle.command_line.proofs.PlainForms.{Made, cases, clean, made, parts_are, is_whole}
 
 -- ---- by the names of options
 

@@ -13,11 +13,12 @@ use Rattle.command_line.specs.declared.form.OptionName.{OptionName}
 use Rattle.command_line.specs.declared.form.OptionName.TheVariants.{Nodes, Rounds}
 use Rattle.command_line.specs.declared.form.Form.{Form}
 use Rattle.command_line.specs.declared.form.Form.TheVariants.{Folder, FolderSearch, DaySearch}
-use Rattle.command_line.specs.Apps.{app, nodes_rule, rules}
+use Rattle.command_line.specs.Apps.{app, nodes_rule}
 use Rattle.command_line.proofs.OptionItems.{option_name}
 use Rattle.command_line.proofs.Rows.{put}
 use Rattle.command_line.proofs.Stepping.{Ordinal, First, Second, Third, position, has_place, place_id, has_options}
 use Rattle.command_line.proofs.Stepping.{id_of, rule_for, settle, stand, await, hold, no_long, no_short, plain_met}
+use Rattle.command_line.proofs.Stepping.{rules}
 
 abbrev pub shape : Form → Shape
 shape form = (built (app form)).top

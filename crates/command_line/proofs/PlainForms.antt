@@ -1,7 +1,7 @@
 -- The items that words are made of: what the words taken apart say of them.
 use Rattle.std.proofs.Common.{◌≡◌, ℕ, Bool, true, false, List, [], ◌∷◌, ◌++◌, Option, Some, None, take, drop, refl}
 use Rattle.std.proofs.Common.{sym, ap, subst, ◌∙◌, ◌⊎◌, inl, inr, append-nil, append_assoc, codes}
-use Rattle.std.specs.Prelude.{fold}
+use Rattle.std.specs.Prelude.{fold, not, ◌&&◌, is_some}
 use Rattle.std.specs.Str.{bytes_eq}
 use Rattle.std.proofs.lemmas.Bool.{both_ways}
 use Rattle.std.proofs.lemmas.List.{take-append-drop}
@@ -13,7 +13,11 @@ use Rattle.command_line.specs.declared.form.Kind.TheVariants.{Plain, Name, Whole
 use Rattle.plain_words.specs.Items.{WordList, is_positional}
 use Rattle.command_line.proofs.OptionItems.{Item, Positional, TwoWords, OneWord, HaveTheirForm, option_name}
 use Rattle.command_line.proofs.OptionItems.{positional_in, values_in, words_of}
-use Rattle.command_line.specs.Parts.{Parts, begins_with, is_whole, kind_of, stepped, with_value, with_word}
+use Rattle.command_line.specs.Parts.{Parts, begins_with, kind_of, stepped, with_value, with_word}
+
+-- every word is one that a command line may have, and no option is without its value
+abbrev pub is_whole : Parts → Bool
+is_whole parts = not parts.has_others && not (is_some parts.waiting)
 
 pub cases : (b : Bool) → (b ≡ true) ⊎ (b ≡ false)
 cases true = inl refl

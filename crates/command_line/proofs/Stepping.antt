@@ -7,13 +7,17 @@ use Rattle.std.specs.Str.{bytes_eq}
 use Rattle.clap.specs.Lexer.{long_of, short_of, long_of_rest, short_of_rest, strip_byte}
 use Rattle.clap.specs.Walk.{Waiting, Step, option, trailing, after_step, long_or_other, short_or_plain, plain_word}
 use Rattle.clap.specs.Walk.{pushed, settled, Rule, Row, Text, Held, Walk, walked, settled_rows, used, idle}
-use Rattle.clap.specs.Simple.{filled}
+use Rattle.clap.specs.Simple.{filled, built}
 use Rattle.command_line.specs.declared.form.OptionName.{OptionName}
 use Rattle.command_line.specs.declared.form.OptionName.TheVariants.{Nodes, Rounds}
 use Rattle.command_line.specs.declared.form.Form.{Form}
 use Rattle.command_line.specs.declared.form.Form.TheVariants.{Folder, FolderSearch, DaySearch}
-use Rattle.command_line.specs.Apps.{first_id, nodes_rule, rounds_rule, rules}
+use Rattle.command_line.specs.Apps.{first_id, nodes_rule, rounds_rule, app}
 use Rattle.command_line.proofs.OptionItems.{option_name}
+
+-- the rules by which words are read
+abbrev pub rules : Form → List Rule
+rules form = (built (app form)).top.rules
 
 -- ---- where the walk stands
 

@@ -18,16 +18,16 @@ use Rattle.command_line.specs.declared.form.OptionName.{OptionName}
 use Rattle.command_line.specs.declared.form.OptionName.TheVariants.{Nodes, Rounds}
 use Rattle.command_line.specs.declared.form.Form.{Form}
 use Rattle.command_line.specs.declared.form.Form.TheVariants.{Folder, FolderSearch, DaySearch}
-use Rattle.command_line.specs.Apps.{app, first_id, rules}
+use Rattle.command_line.specs.Apps.{app, first_id}
 use Rattle.plain_words.specs.Items.{WordList}
 use Rattle.command_line.proofs.OptionItems.{Item, Positional, TwoWords, OneWord, HaveTheirForm}
 use Rattle.command_line.proofs.OptionItems.{positional_in, value_before, values_in, words_of}
 use Rattle.command_line.specs.declared.taken.GivenTexts.{GivenTexts}
 use Rattle.command_line.specs.Texts.{said, texts_in, texts_of}
-use Rattle.command_line.specs.Parts.{Parts, fits, is_whole, parts_of, places, times}
-use Rattle.command_line.proofs.PlainForms.{Made, clean, made, parts_are}
+use Rattle.command_line.specs.Parts.{Parts, fits, parts_of, places, times}
+use Rattle.command_line.proofs.PlainForms.{Made, clean, made, parts_are, is_whole}
 use Rattle.command_line.proofs.Rows.{one_row, value_in}
-use Rattle.command_line.proofs.Stepping.{Ordinal, First, Second, Third, has_place, next, place_id, id_of, settle}
+use Rattle.command_line.proofs.Stepping.{Ordinal, First, Second, Third, has_place, next, place_id, id_of, settle, rules}
 use Rattle.command_line.proofs.Passing.{how, shape}
 use Rattle.command_line.proofs.Walking.{HasRoomFor, Stands, Walks, apart, apart_too, before, item_rows, walks}
 

@@ -10,14 +10,13 @@ use Rattle.command_line.specs.declared.form.OptionName.{OptionName}
 use Rattle.command_line.specs.declared.form.OptionName.TheVariants.{Nodes, Rounds}
 use Rattle.command_line.specs.declared.form.Form.{Form}
 use Rattle.command_line.specs.declared.form.Form.TheVariants.{Folder, FolderSearch, DaySearch}
-use Rattle.command_line.specs.Apps.{rules}
 use Rattle.plain_words.specs.Items.{WordList}
 use Rattle.command_line.proofs.OptionItems.{Item, Positional, TwoWords, OneWord, HaveTheirForm}
 use Rattle.plain_words.specs.Items.{is_positional}
 use Rattle.command_line.proofs.OptionItems.{option_name, positional_in, value_before, values_in, words_of}
 use Rattle.command_line.specs.Parts.{places, times}
 use Rattle.command_line.proofs.Rows.{has_row-more, one_row, put_is}
-use Rattle.command_line.proofs.Stepping.{Ordinal, First, Second, Third, position, next, has_place, place_id}
+use Rattle.command_line.proofs.Stepping.{Ordinal, First, Second, Third, position, next, has_place, place_id, rules}
 use Rattle.command_line.proofs.Stepping.{has_options, id_of, rule_for, settle, stand, await, hold, name_step}
 use Rattle.command_line.proofs.Stepping.{positional_step, value_step, whole_step}
 use Rattle.command_line.proofs.Passing.{how, shape, name_passes_here, place_settles, positional_passes_here}

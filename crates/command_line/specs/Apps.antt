@@ -1,7 +1,7 @@
 -- The commands of `clap` that take the words apart.
-use Rattle.std.specs.Prelude.{List, Some, codes, true}
+use Rattle.std.specs.Prelude.{Some, codes, true}
 use Rattle.clap.specs.Walk.{Rule, Text}
-use Rattle.clap.specs.Simple.{App, built, new_app, new_rule, on_top, with_rule}
+use Rattle.clap.specs.Simple.{App, new_app, new_rule, on_top, with_rule}
 use Rattle.command_line.specs.declared.form.Form.{Form}
 use Rattle.command_line.specs.declared.form.Form.TheVariants.{Folder, FolderSearch, DaySearch}
 
@@ -26,10 +26,6 @@ abbrev pub app : Form → App
 app Folder = folder_app
 app FolderSearch = with_rule (with_rule folder_app nodes_rule) rounds_rule
 app DaySearch = with_rule (with_rule day_app nodes_rule) rounds_rule
-
--- the rules by which words are read
-abbrev pub rules : Form → List Rule
-rules form = (built (app form)).top.rules
 
 -- the name of the first positional word
 abbrev pub first_id : Form → Text

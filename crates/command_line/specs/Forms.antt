@@ -21,8 +21,7 @@ ArePlain form words = (items : List Item) × IsPlain (form_of form) words items
 
 -- what items say: their positional words and the values of the two options
 abbrev pub items_said : List Item → Texts
-items_said items =
-    said (positional_in items) (values_in (codes "--nodes") items) (values_in (codes "--rounds") items)
+items_said items = said (positional_in items) (values_in (codes "--nodes") items) (values_in (codes "--rounds") items)
 
 -- as whatever items the words are of the form, the texts are those of the items
 abbrev pub SaysItems : Form → WordList → Texts → Type 0

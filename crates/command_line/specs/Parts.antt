@@ -66,10 +66,6 @@ with_word parts word = stepped parts.waiting (kind_of word) word parts
 abbrev pub parts_of : List (List ℕ) → Parts
 parts_of words = fold with_word no_parts words
 
--- every word is one that a command line may have, and no option is without its value
-abbrev pub is_whole : Parts → Bool
-is_whole parts = not parts.has_others && not (is_some parts.waiting)
-
 -- ---- how many there are
 
 pub record Counts : Type 0 where

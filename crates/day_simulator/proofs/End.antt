@@ -6,7 +6,8 @@ use Rattle.std.proofs.lemmas.Bool.{cases_eq, cases_lt, cond-true, cond-false, ca
 use Rattle.timetable.specs.Day.{Day, type_of, unit_count, wanted_of}
 use Rattle.timetable.specs.Lists.{count_of, below}
 use Rattle.timetable.specs.Duties.{last_place}
-use Rattle.timetable.specs.Running.{ending, ending_of}
+use Rattle.rules.proofs.OfTheStock.{ending}
+use Rattle.timetable.specs.Running.{ending_of}
 use Rattle.day_simulator.specs.declared.events.DayEvent.{DayEvent}
 use Rattle.day_simulator.specs.declared.events.DayEvent.TheVariants.{Depart, Arrive}
 use Rattle.day_simulator.specs.declared.events.UnitLocation.TheVariants.{Yard}

@@ -9,7 +9,8 @@ use Rattle.timetable.specs.Day.{Day, leaves, arrives, from_of, to_of, reallocati
 use Rattle.timetable.specs.Lists.{count_of, IsDistinct}
 use Rattle.timetable.specs.Accepted.{IsDay}
 use Rattle.timetable.specs.Links.{list_of, kept, given, taken}
-use Rattle.timetable.specs.Running.{IsPlan, MayFollow}
+use Rattle.rules.proofs.OfTheStock.{MayFollow}
+use Rattle.timetable.specs.Running.{IsPlan}
 use Rattle.day_simulator.specs.declared.events.DayEvent.{DayEvent}
 use Rattle.day_simulator.specs.declared.events.DayEvent.TheVariants.{Depart, Arrive}
 use Rattle.day_simulator.specs.declared.events.UnitLocation.{UnitLocation}

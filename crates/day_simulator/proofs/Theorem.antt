@@ -8,8 +8,9 @@ use Rattle.timetable.specs.Lists.{count_of, below}
 use Rattle.timetable.specs.Accepted.{IsDay, AreLinks}
 use Rattle.timetable.specs.Links.{list_of, link_holds, kept, taken}
 use Rattle.rules.specs.declared.records.Link.{Link}
+use Rattle.rules.proofs.OfTheStock.{MayFollow}
 use Rattle.timetable.specs.Duties.{duty, last_place, last_place_of}
-use Rattle.timetable.specs.Running.{IsPlan, Runs, MayFollow, EachFollows, BeginsAt}
+use Rattle.timetable.specs.Running.{IsPlan, Runs, EachFollows, BeginsAt}
 use Rattle.timetable.specs.Cost.{plan_cost}
 use Rattle.day_simulator.specs.declared.events.DayEvent.{DayEvent}
 use Rattle.day_simulator.specs.declared.events.UnitLocation.TheVariants.{Yard, Aboard}

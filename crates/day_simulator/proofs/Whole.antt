@@ -7,7 +7,8 @@ use Rattle.timetable.specs.Lists.{count_of, has}
 use Rattle.timetable.specs.Accepted.{IsDay}
 use Rattle.timetable.specs.Links.{list_of, given, taken}
 use Rattle.timetable.specs.Duties.{ends_at}
-use Rattle.timetable.specs.Running.{IsPlan, MayRun}
+use Rattle.rules.proofs.OfTheStock.{MayRun}
+use Rattle.timetable.specs.Running.{IsPlan}
 use Rattle.day_simulator.specs.declared.events.DayEvent.{DayEvent}
 use Rattle.day_simulator.specs.declared.events.DayEvent.TheVariants.{Depart, Arrive}
 use Rattle.day_simulator.specs.declared.events.UnitLocation.{UnitLocation}

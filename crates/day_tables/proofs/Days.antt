@@ -28,10 +28,10 @@ use Rattle.day_tables.specs.Day.{Day, units_in, units_of, leaves, arrives, from_
 use Rattle.day_tables.specs.Day.{first_demand_of, home_of, type_of, platform_of, reallocation_of}
 use Rattle.day_tables.specs.LinkRows.{accept_link, links_in}
 use Rattle.day_tables.specs.Lists.{of_entry}
-use Rattle.day_tables.specs.Within.{AreTypes, IsStation, AreStations, IsStockAt, IsUnitAt, IsTripAt, AreTrips}
+use Rattle.day_tables.specs.Within.{AreTypes, IsStation, AreStations, IsUnitAt, IsTripAt, AreTrips}
 use Rattle.day_tables.specs.Within.{AreWeights}
 use Rattle.day_tables.proofs.Accepting.{bind_ok, guard_ok, same_ok, accepted_length}
-use Rattle.day_tables.proofs.Entries.{are_types, are_stations, are_stock, are_trips}
+use Rattle.day_tables.proofs.Entries.{are_types, are_stations, are_stock, are_trips, IsStockAt}
 
 -- an entry that is there
 pub entry_at : {X : Type 0} (P : X → Type 0) (xs : List X) (i : ℕ) → i < length xs → All P xs → (x : X) × (slice_get xs i ≡ Some x) × P x

@@ -35,8 +35,13 @@ use Rattle.day_tables.specs.Build.{new_stock, trip_between, has_fitting, platfor
 use Rattle.day_tables.specs.Build.{accept_station, stations_in, station_in, has_stock, accept_stock, stock_in}
 use Rattle.day_tables.specs.Build.{accept_trip, accept_run, trips_in}
 use Rattle.day_tables.specs.NamedEntries.{has_name, find_name, found_or}
-use Rattle.day_tables.specs.Within.{AreTypes, AreStations, IsStation, IsStockAt, IsTripAt, AreTrips}
+use Rattle.day_tables.specs.Within.{AreTypes, AreStations, IsStation, IsTripAt, AreTrips}
 use Rattle.day_tables.proofs.Accepting.{bind_ok, guard_ok, choice_ok, found_ok, same_ok, accepted_all, accepted_length}
+
+-- the station and the type of a stock row are there
+pub record IsStockAt (stations types : ℕ) (row : Stock) : Type 0 where
+  pub station : row.station < stations
+  pub unit_type : row.unit_type < types
 
 -- a type that was accepted is that of its row, whose name is new
 pub type_of_row : (before : List UnitType) (row : TypeRow) (t : UnitType) → accept_type before row ≡ Ok t → (has_name (λ t. t.name) before row.name ≡ false) × (type_in row ≡ t)

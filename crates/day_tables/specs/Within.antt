@@ -9,7 +9,6 @@ use Rattle.rules.specs.declared.records.Link.{Link}
 use Rattle.rules.specs.declared.records.LinkKind.{LinkKind}
 use Rattle.rules.specs.declared.records.LinkKind.TheVariants.{Turn, Join, Split}
 use Rattle.rules.specs.declared.records.Station.{Station}
-use Rattle.rules.specs.declared.records.Stock.{Stock}
 use Rattle.rules.specs.declared.records.Trip.{Trip}
 use Rattle.rules.specs.declared.records.Unit as unit
 use Rattle.rules.specs.declared.records.Weights.{Weights}
@@ -28,11 +27,6 @@ pub record IsStation (station : Station) : Type 0 where
 pub record AreStations (stations : List Station) : Type 0 where
   pub few : length stations ≤ MAX_STATIONS
   pub each : All IsStation stations
-
--- the station and the type of a stock row are there
-pub record IsStockAt (stations types : ℕ) (row : Stock) : Type 0 where
-  pub station : row.station < stations
-  pub unit_type : row.unit_type < types
 
 -- the home and the type of a unit are there
 pub record IsUnitAt (stations types : ℕ) (u : unit.Unit) : Type 0 where

@@ -9,7 +9,8 @@ use Rattle.rules.specs.declared.records.Stock.{Stock}
 use Rattle.timetable.specs.Accepted.{AreUnitsOf, IsStocked}
 use Rattle.timetable.specs.Day.{Day, stock_units, unit_count, units_in, units_of, home_of, type_of, wanted_in, wanted_of}
 use Rattle.timetable.specs.DerivedDays.{KeepsTimetable}
-use Rattle.timetable.specs.Within.{IsStockAt, IsUnitAt}
+use Rattle.day_tables.proofs.Entries.{IsStockAt}
+use Rattle.timetable.specs.Within.{IsUnitAt}
 use Rattle.timetable.proofs.Days.{entry_at, entry_is, units_within}
 use Rattle.timetable.proofs.FewPlaces.{few_places}
 use Rattle.timetable.proofs.Indices.{InRows, in_rows}

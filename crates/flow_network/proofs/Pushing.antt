@@ -2,7 +2,7 @@
 use Rattle.std.proofs.Common.{◌≡◌, ◌≢◌, ℕ, zero, suc, ◌+◌, ◌-◌, ◌≤◌, ◌<◌, Bool, true, false, List, [], ◌∷◌, length, get_or, set, map, refl, sym, ap, ◌∙◌, subst, arith, inl, inr}
 use Rattle.std.proofs.Common.{Option, Some, None, is_some, option_map, unwrap_or, length-set}
 use Rattle.std.specs.Prelude.{if◌then◌else◌, ◌==◌, ◌||◌}
-use Rattle.std.specs.List.{sum_by}
+use Rattle.std.specs.List.{sum_by, All}
 use Rattle.std.proofs.lemmas.Bool.{cases_Bool, cases_eq, cases_lt, cond-true, cond-false, eq-eqb, eqb-true, ltb-true, lt-ltb, false≢true}
 use Rattle.std.proofs.lemmas.List.{get_or-set_same, get_or-set_other}
 use Rattle.std.proofs.lemmas.List.Elements.{All-set}
@@ -10,8 +10,25 @@ use Rattle.std.proofs.lemmas.List.Sums.{sum_by-set}
 use Rattle.flow_network.specs.declared.network.Arc.{Arc}
 use Rattle.flow_network.specs.declared.reach.Step.{Step}
 use Rattle.flow_network.specs.Flows.{Net, IsFlow, IsArcOf, coming_to, leaving_from, empty}
-use Rattle.flow_network.specs.Steps.{AreTraced, IsPushed, IsReachedBy, LeadsTo, has, head_of, has_residual, pushed, rank_of, room_out, step_to, tail_of, when_same}
+use Rattle.flow_network.specs.Steps.{IsReachedBy, LeadsTo, has, head_of, has_residual, pushed, rank_of, room_out, step_to, tail_of}
 use Rattle.flow_network.proofs.Reaching.{no_none, same_some, no_arc}
+
+abbrev pub when_same : ℕ → ℕ → ℕ
+when_same n m = if n == m then 1 else 0
+
+-- all steps up to a rank lead to their nodes from nodes that were reached before these
+abbrev pub AreTraced : List Arc → ℕ → List (Option Step) → ℕ → Type 0
+AreTraced arcs source steps rank = (n : ℕ) (step : Step) → step_to steps n ≡ Some step → step.rank ≤ rank
+    → LeadsTo arcs source steps n step
+
+-- one unit more was sent to the sink from a node, and comes to it from nowhere yet
+pub record IsPushed (net : Net) (steps : List (Option Step)) (node : ℕ) (arcs : List Arc) : Type 0 where
+  pub each : All (IsArcOf net) arcs
+  pub same : map empty arcs ≡ map empty net.arcs
+  pub kept : (n : ℕ) → n ≢ net.source → n ≢ net.sink → coming_to arcs n + when_same n node ≡ leaving_from arcs n
+  pub room : room_out net.source arcs + when_same node net.source ≡ room_out net.source net.arcs
+  pub traced : AreTraced arcs net.source steps (rank_of net.source steps node)
+  pub reached : has net.source steps node ≡ true
 
 -- ---- numbers
 

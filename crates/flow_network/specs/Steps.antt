@@ -1,11 +1,10 @@
 -- How nodes are reached from the source, step by step, and one unit is sent along these steps.
-use Rattle.std.specs.Prelude.{ℕ, ◌≡◌, ◌≢◌, ◌<◌, ◌≤◌, ◌+◌, ◌-◌, ◌^◌, List, length, Bool, true, false, ◌==◌, ◌||◌}
-use Rattle.std.specs.Prelude.{if◌then◌else◌}
-use Rattle.std.specs.Prelude.{get_or, map, nat_lt, Option, Some, None, is_some, is_none, option_map, unwrap_or}
+use Rattle.std.specs.Prelude.{ℕ, length, if◌then◌else◌, get_or, nat_lt, Option, is_some, is_none, option_map, unwrap_or}
+use Rattle.std.specs.Prelude.{◌≡◌, ◌<◌, ◌≤◌, ◌+◌, ◌-◌, ◌^◌, List, Bool, true, false, ◌==◌, ◌||◌, Some, None}
 use Rattle.std.specs.List.{All, sum_by, count_by}
 use Rattle.flow_network.specs.declared.network.Arc.{Arc}
 use Rattle.flow_network.specs.declared.reach.Step.{Step}
-use Rattle.flow_network.specs.Flows.{Net, IsArcOf, coming_to, leaving_from, empty}
+use Rattle.flow_network.specs.Flows.{Net}
 
 -- ---- a step along an arc, or against it
 
@@ -43,11 +42,6 @@ pub record LeadsTo (arcs : List Arc) (source : ℕ) (steps : List (Option Step))
   pub passes : (d : Arc) → has_residual step.is_along (get_or arcs step.arc d) ≡ true
   pub from : (d : Arc) → has source steps (tail_of step.is_along (get_or arcs step.arc d)) ≡ true
   pub earlier : (d : Arc) → rank_of source steps (tail_of step.is_along (get_or arcs step.arc d)) < step.rank
-
--- so do all steps of these ranks
-abbrev pub AreTraced : List Arc → ℕ → List (Option Step) → ℕ → Type 0
-AreTraced arcs source steps rank = (n : ℕ) (step : Step) → step_to steps n ≡ Some step → step.rank ≤ rank
-    → LeadsTo arcs source steps n step
 
 -- some nodes were reached, so many of them
 pub record IsReaching (arcs : List Arc) (nodes source : ℕ) (steps : List (Option Step)) (found : ℕ) : Type 0 where
@@ -92,15 +86,3 @@ pub record IsReachedBy (net : Net) (steps : List (Option Step)) : Type 0 where
 -- how many units more may leave the source
 abbrev pub room_out : ℕ → List Arc → ℕ
 room_out source arcs = sum_by (λ arc. if arc.from == source then arc.capacity - arc.flow else 0) arcs
-
-abbrev pub when_same : ℕ → ℕ → ℕ
-when_same n m = if n == m then 1 else 0
-
--- one unit more was sent to the sink from a node, and comes to it from nowhere yet
-pub record IsPushed (net : Net) (steps : List (Option Step)) (node : ℕ) (arcs : List Arc) : Type 0 where
-  pub each : All (IsArcOf net) arcs
-  pub same : map empty arcs ≡ map empty net.arcs
-  pub kept : (n : ℕ) → n ≢ net.source → n ≢ net.sink → coming_to arcs n + when_same n node ≡ leaving_from arcs n
-  pub room : room_out net.source arcs + when_same node net.source ≡ room_out net.source net.arcs
-  pub traced : AreTraced arcs net.source steps (rank_of net.source steps node)
-  pub reached : has net.source steps node ≡ true

@@ -7,7 +7,8 @@ use Rattle.timetable.specs.Day.{Day, leaves, home_of, type_of, types_of}
 use Rattle.timetable.specs.Duties.{duty}
 use Rattle.timetable.specs.Links.{list_of}
 use Rattle.timetable.specs.Lists.{count_of, has}
-use Rattle.timetable.specs.Running.{MayFollow, EachFollows, BeginsAt, Runs}
+use Rattle.rules.proofs.OfTheStock.{MayFollow}
+use Rattle.timetable.specs.Running.{EachFollows, BeginsAt, Runs}
 use Rattle.timetable.proofs.ListedUnits.{list_of-types}
 use Rattle.inventory.specs.NamedBefore.{MayFollowByPlaces, IsNamedBefore}
 use Rattle.inventory.specs.NamingLaws.{RunningPlansAreNamed}

@@ -11,7 +11,8 @@ use Rattle.timetable.specs.Day.{Day, leaves, from_of, to_of, home_of, type_of, t
 use Rattle.timetable.specs.Duties.{is_before, duty, ends_at, last_place, last_place_of}
 use Rattle.timetable.specs.Links.{list_of, kept, given, taken}
 use Rattle.timetable.specs.Lists.{count_of, has, below, sum_below}
-use Rattle.timetable.specs.Running.{Runs, MayFollow, GoesByYard, EachFollows, BeginsAt}
+use Rattle.rules.proofs.OfTheStock.{MayFollow, GoesByYard}
+use Rattle.timetable.specs.Running.{Runs, EachFollows, BeginsAt}
 use Rattle.timetable.proofs.ListedUnits.{list_of-types}
 use Rattle.inventory.specs.Places.{going_on, given_places, kept_places, taken_places, coming}
 use Rattle.inventory.proofs.Sums.{one, one_same, one_other, sum_same}

@@ -10,7 +10,8 @@ use Rattle.timetable.specs.Day.{Day, leaves, from_of, to_of, home_of, type_of, t
 use Rattle.timetable.specs.Duties.{duty}
 use Rattle.timetable.specs.Links.{kept, given, taken}
 use Rattle.timetable.specs.Lists.{count_of, has, sum_below}
-use Rattle.timetable.specs.Running.{Runs, MayFollow, GoesByYard, EachFollows, BeginsAt}
+use Rattle.rules.proofs.OfTheStock.{MayFollow, GoesByYard}
+use Rattle.timetable.specs.Running.{Runs, EachFollows, BeginsAt}
 use Rattle.timetable.specs.Starts.{start_of}
 use Rattle.timetable.proofs.AtHome.{at_home}
 use Rattle.inventory.specs.Counts.{taken_until, ready_until}

@@ -13,7 +13,8 @@ use Rattle.timetable.specs.Day.{Day, leaves, from_of, to_of, home_of, type_of, t
 use Rattle.timetable.specs.Duties.{is_before, in_order, duty, ends_at, last_place, last_place_of}
 use Rattle.timetable.specs.Links.{list_of, kept, given, taken}
 use Rattle.timetable.specs.Lists.{count_of, has, below}
-use Rattle.timetable.specs.Running.{MayFollow, EachFollows, BeginsAt, ending, ending_of, Runs}
+use Rattle.rules.proofs.OfTheStock.{MayFollow, ending}
+use Rattle.timetable.specs.Running.{EachFollows, BeginsAt, ending_of, Runs}
 use Rattle.timetable.proofs.ListedUnits.{list_of-types}
 use Rattle.inventory.specs.Counts.{AreServed}
 use Rattle.inventory.specs.NamedUnits.{after_trip, standing, may_be_taken, latest_first}

@@ -9,7 +9,8 @@ use Rattle.timetable.specs.Day.{Day, leaves, from_of, to_of, home_of, type_of, t
 use Rattle.timetable.specs.Duties.{last_place}
 use Rattle.timetable.specs.Links.{list_of, itself, given, taken, given_with, taken_with}
 use Rattle.timetable.specs.Lists.{count_of, sum_below}
-use Rattle.timetable.specs.Running.{Runs, ending, ending_of}
+use Rattle.rules.proofs.OfTheStock.{ending}
+use Rattle.timetable.specs.Running.{Runs, ending_of}
 use Rattle.timetable.specs.Starts.{start_of}
 use Rattle.timetable.proofs.ListedUnits.{list_of-types}
 use Rattle.timetable.proofs.TypeRule.{link-map, given-map, taken-map}

@@ -2,7 +2,7 @@
 use Rattle.std.specs.Prelude.{ℕ, ◌≡◌, ◌<◌, ◌≤◌, ◌⊎◌, List, [], ◌∷◌, length, map, true, ◌==◌, ◌&&◌, IsTrue, slice_get}
 use Rattle.std.specs.Prelude.{Some, ⊤, ◌↔◌}
 use Rattle.rules.specs.declared.records.Link.{Link}
-use Rattle.rules.specs.Day.{Day, Units, leaves, from_of, to_of, type_of, unit_count, stock_units, wanted_of, ready_at}
+use Rattle.rules.specs.Day.{Day, Units, leaves, from_of, to_of, unit_count, stock_units, wanted_of, ready_at}
 use Rattle.rules.specs.Admissible.{is_admissible}
 use Rattle.rules.specs.Links.{list_of, link_holds, kept_with, given_with, taken_with}
 use Rattle.rules.specs.Duties.{duty, last_place_of}
@@ -26,9 +26,6 @@ pub record MayRunOf (type_of : ℕ → ℕ) (day : Day) (trip : ℕ) (us : List 
   pub distinct : IsDistinct us
   pub admissible : is_admissible day trip (map type_of us) ≡ true
 
-abbrev pub MayRun : Day → ℕ → List ℕ → Type 0
-MayRun day trip us = MayRunOf (type_of day) day trip us
-
 -- the unit goes through the yard from trip a to trip b: it is given by the one, taken by the other at the same station,
 -- and ready
 pub record GoesByYardOf (type_of : ℕ → ℕ) (day : Day) (plan : List (List ℕ)) (u a b : ℕ) : Type 0 where
@@ -37,16 +34,10 @@ pub record GoesByYardOf (type_of : ℕ → ℕ) (day : Day) (plan : List (List �
   pub station : to_of day a ≡ from_of day b
   pub ready : ready_at day a ≤ leaves day b
 
-abbrev pub GoesByYard : Day → List (List ℕ) → ℕ → ℕ → ℕ → Type 0
-GoesByYard day plan u a b = GoesByYardOf (type_of day) day plan u a b
-
 -- the unit may go on from trip a to trip b: it stays in the train, or it goes through the yard
 abbrev pub MayFollowOf : (ℕ → ℕ) → Day → List (List ℕ) → ℕ → ℕ → ℕ → Type 0
 MayFollowOf type_of day plan u a b =
     IsTrue (has u (kept_with type_of day plan a b)) ⊎ GoesByYardOf type_of day plan u a b
-
-abbrev pub MayFollow : Day → List (List ℕ) → ℕ → ℕ → ℕ → Type 0
-MayFollow day plan u a b = MayFollowOf (type_of day) day plan u a b
 
 -- each two trips that follow one another
 abbrev pub EachFollows : (ℕ → ℕ → Type 0) → List ℕ → Type 0
@@ -63,10 +54,6 @@ BeginsAt day station (t ∷ ts) = from_of day t ≡ station
 unfoldable pub ending_of : Units → Day → List (List ℕ) → ℕ → ℕ → ℕ
 ending_of units day plan s m =
     count_below (λ u. (last_place_of units day plan u == s) && (units.unit_type u == m)) units.count
-
--- the same of the stock's units
-abbrev pub ending : Day → List (List ℕ) → ℕ → ℕ → ℕ
-ending day plan s m = ending_of (stock_units day) day plan s m
 
 -- The plan runs, with these units.
 pub record RunsOf (units : Units) (day : Day) (plan : List (List ℕ)) : Type 0 where

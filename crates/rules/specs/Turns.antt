@@ -140,11 +140,8 @@ pub record AreParts (type_of : ℕ → ℕ) (uncouple couple : End) (exchange : 
 
 -- the parts where so many stay: the rest goes and comes, each at its end
 abbrev pub parts_beside : End → End → List ℕ → List ℕ → ℕ → Parts
-parts_beside uncouple couple arriving departing n = record {
-  kept = staying uncouple arriving n;
-  given = beyond uncouple arriving n;
-  taken = beyond couple departing n;
-}
+parts_beside uncouple couple arriving departing n =
+    record { kept = staying uncouple arriving n; given = beyond uncouple arriving n; taken = beyond couple departing n }
 
 -- the parts of a turn that keeps so many: none where other units stand at the kept places, or where too many are
 -- shunted

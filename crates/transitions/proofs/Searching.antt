@@ -9,7 +9,11 @@ use Rattle.std.specs.Ordering.{MatchOrdering, ordering_then, ordering_index}
 use Rattle.std.proofs.lemmas.Bool.{cases_lt}
 use Rattle.transitions.specs.declared.edge.Edge.{Edge}
 use Rattle.transitions.specs.Edges.{IsBefore, AreInOrder}
-use Rattle.transitions.specs.Between.{IsBetween, IsUpTo, order_to}
+use Rattle.transitions.specs.Between.{IsBetween, order_to}
+
+-- the edge goes from a composition below from, or from it to one below to
+abbrev pub IsUpTo : ℕ → ℕ → Edge → Type 0
+IsUpTo from to edge = (edge.from < from) ⊎ ((edge.from ≡ from) × (edge.to < to))
 
 -- an edge before one that is before the pair, or between the two, is before the pair
 before_lower : (from to : ℕ) (x y : Edge) → IsBefore x y → IsUpTo from to y → IsUpTo from to x

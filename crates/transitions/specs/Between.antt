@@ -1,5 +1,5 @@
 -- Edges between two compositions.
-use Rattle.std.specs.Prelude.{ℕ, ◌≡◌, ◌<◌, ◌⊎◌, ◌↔◌, List, Contains}
+use Rattle.std.specs.Prelude.{ℕ, ◌≡◌, ◌↔◌, List, Contains}
 use Rattle.std.specs.Ordering.{nat_cmp, ordering_then}
 use Rattle.std.specs.declared.cmp.Ordering.{Ordering}
 use Rattle.transitions.specs.declared.edge.Edge.{Edge}
@@ -9,10 +9,6 @@ use Rattle.transitions.specs.Edges.{AreInOrder}
 pub record IsBetween (from to : ℕ) (edge : Edge) : Type 0 where
   pub origin : edge.from ≡ from
   pub goal : edge.to ≡ to
-
--- the edge goes from a composition below from, or from it to one below to
-abbrev pub IsUpTo : ℕ → ℕ → Edge → Type 0
-IsUpTo from to edge = (edge.from < from) ⊎ ((edge.from ≡ from) × (edge.to < to))
 
 -- these and no other edges are allowed by a rule
 pub record AreEdgesBy (Allows : Edge → Type 0) (edges : List Edge) : Type 0 where

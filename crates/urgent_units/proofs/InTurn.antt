@@ -5,7 +5,8 @@ use Rattle.std.proofs.lemmas.Bool.{cases_Bool, cond-true, cond-false, false≢tr
 use Rattle.timetable.specs.Day.{Day, leaves, arrives, from_of, to_of, ready_at}
 use Rattle.timetable.specs.Duties.{ends_at}
 use Rattle.timetable.specs.Laws.{GoesOnTo}
-use Rattle.timetable.specs.Running.{EachFollows, MayFollow}
+use Rattle.rules.proofs.OfTheStock.{MayFollow}
+use Rattle.timetable.specs.Running.{EachFollows}
 use Rattle.urgent_units.specs.declared.legs.Leg.{Leg}
 use Rattle.urgent_units.specs.Legs.{leg_of, stays, end_of}
 use Rattle.urgent_units.specs.Runs.{runs_of, with_trip}

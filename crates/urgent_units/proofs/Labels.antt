@@ -16,11 +16,12 @@ use Rattle.timetable.specs.Day.{Day, type_of, types_of, unit_count}
 use Rattle.timetable.specs.Duties.{duty}
 use Rattle.timetable.specs.Links.{list_of, kept, given, taken, turned, link_out, link_into, trips_into}
 use Rattle.timetable.specs.Lists.{count_of, has, sum_below}
-use Rattle.timetable.specs.Running.{Runs, MayFollow, EachFollows}
+use Rattle.timetable.specs.Running.{Runs, EachFollows}
 use Rattle.timetable.specs.Turns.{staying, beyond, kept_count}
 use Rattle.timetable.proofs.ListedUnits.{list_of-types}
 use Rattle.timetable.proofs.Ones.{one_same}
 use Rattle.rules.proofs.Turning.{staying-map}
+use Rattle.rules.proofs.OfTheStock.{MayFollow}
 use Rattle.inventory.specs.Places.{going_by, come_by, fetched_by, going_on, kept_places, taken_places, coming}
 use Rattle.inventory.proofs.Linked.{AllHold, Goes, LeadsInto, goes, leads_into, flat_same, taken_places-map, come_is, taken_is, kept_is, places_share}
 use Rattle.inventory.proofs.OnDuty.{once, stays as kept_apart, last_gives, last_of_duty as last_trip, duty_once, on_duty, given_less, of_duty}

@@ -15,7 +15,8 @@ use Rattle.timetable.specs.Lists.{count_of, has, below, listed}
 use Rattle.timetable.proofs.Listing.{get_listed}
 use Rattle.unit_duties.specs.declared.stops.Stop.{Stop}
 use Rattle.unit_duties.specs.Stops.{stop_on, stops_of, duties_of}
-use Rattle.timetable.specs.Running.{Runs, EachFollows, MayFollow}
+use Rattle.rules.proofs.OfTheStock.{MayFollow}
+use Rattle.timetable.specs.Running.{Runs, EachFollows}
 use Rattle.inventory.proofs.OnDuty.{stays as kept_apart}
 use Rattle.urgent_units.specs.declared.legs.Leg.{Leg}
 use Rattle.urgent_units.specs.LegParts.{with_leg}

@@ -5,7 +5,8 @@ use Rattle.timetable.specs.Day.{Day, from_of, home_of, unit_count, stock_units}
 use Rattle.timetable.specs.Duties.{duty, ends_at, last_place, last_place_of}
 use Rattle.timetable.specs.Laws.{GoesOnTo}
 use Rattle.timetable.specs.Lists.{count_of}
-use Rattle.timetable.specs.Running.{Runs, MayFollow, EachFollows, BeginsAt}
+use Rattle.rules.proofs.OfTheStock.{MayFollow}
+use Rattle.timetable.specs.Running.{Runs, EachFollows, BeginsAt}
 use Rattle.timetable.proofs.OnePlace.{units_are_in_one_place}
 use Rattle.timetable.proofs.Ones.{one_same}
 use Rattle.inventory.proofs.OnDuty.{duty_within}

@@ -1,8 +1,8 @@
 use Rattle.std.proofs.Common.{◌≡◌, ◌+◌, nat_le, sym, ap, ◌∙◌, subst, arith}
 use Rattle.branch_tree.specs.Entries.{AreRising}
-use Rattle.advisors.specs.Puts.{merged, with_entries}
+use Rattle.advisors.specs.Puts.{with_entries}
 use Rattle.advisors.proofs.EntryLists.{rising-filtered}
-use Rattle.advisors.proofs.Merging.{drop-end, merged-is_stepped, with-slack}
+use Rattle.advisors.proofs.Merging.{drop-end, merged-is_stepped, with-slack, merged}
 use Rattle.advisors.proofs.Turns.{entries-over}
 use Rattle.advisors.proofs.subgradient.propose.Goals as goal
 

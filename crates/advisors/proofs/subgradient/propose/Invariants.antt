@@ -1,8 +1,9 @@
 use Rattle.std.proofs.Common.{◌≡◌, drop}
 use Rattle.branch_tree.specs.Entries.{AreRising}
 use Rattle.advisors.specs.Proposals.{DoesFit}
-use Rattle.advisors.specs.Puts.{merged, with_entries}
+use Rattle.advisors.specs.Puts.{with_entries}
 use Rattle.advisors.proofs.subgradient.propose.Given as goal
+use Rattle.advisors.proofs.Merging.{merged}
 
 abbrev pub invariant-loop-place : goal.invariant-loop-place
 invariant-loop-place l = record {

@@ -1,8 +1,8 @@
 use Rattle.std.proofs.Common.{get_or, ◌<◌, length, List, ℕ, sym, subst}
 use Rattle.flow_network.specs.declared.network.Arc.{Arc}
 use Rattle.flow_network.specs.Flows.{Net}
-use Rattle.flow_network.specs.Steps.{IsPushed, rank_of, tail_of}
-use Rattle.flow_network.proofs.Pushing.{pushed_on, rank_falls}
+use Rattle.flow_network.specs.Steps.{rank_of, tail_of}
+use Rattle.flow_network.proofs.Pushing.{pushed_on, rank_falls, IsPushed}
 use Rattle.flow_network.proofs.Reaching.{no_arc}
 use Rattle.flow_network.proofs.filling.push.Goals as goal
 
