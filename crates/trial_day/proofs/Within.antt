@@ -6,7 +6,7 @@ use Rattle.std.proofs.lemmas.List.Elements.{All-from_recursion}
 use Rattle.rail_base.specs.Names.{is_name}
 use Rattle.rail_csv.specs.Rows.{IsTypeRow, IsStationRow, IsStockRow, IsTripRow, IsLinkRow, IsWeightsRow, AreTypeRows}
 use Rattle.rail_csv.specs.Rows.{AreStationRows, AreStockRows, AreTripRows, AreLinkRows}
-use Rattle.trial_day.specs.AcceptedTables.{AreWithinLimits}
+use Rattle.timetable.specs.DayTables.{AreTables}
 use Rattle.trial_day.specs.Draws.{drawn, state_after}
 use Rattle.trial_day.specs.Trial.{type_a, type_b, trial_types, station_x, station_y, trial_stations, stock_at_x}
 use Rattle.trial_day.specs.Trial.{trial_stock, trial_weights, drawn_out, drawn_back, turn_row, trial_trips, trial_links}
@@ -88,7 +88,7 @@ links_within trips few = let half = pairs_few trips few in record {
 weights_within : IsWeightsRow trial_weights
 weights_within = record { carriage = (omega arith, omega arith); shortage = (omega arith, omega arith); shunting = (omega arith, omega arith) }
 
-pub tables_within : (seed trips : ℕ) → trips ≤ 400 → AreWithinLimits (trial_tables_of seed trips)
+pub tables_within : (seed trips : ℕ) → trips ≤ 400 → AreTables (trial_tables_of seed trips)
 unfolding trial_tables_of
 tables_within seed trips few = record {
   types = types_within;
