@@ -10,8 +10,7 @@ use Rattle.answer_text.specs.Texts.{text_of}
 
 -- Bytes are the text of one answer within the limits at most.
 abbrev pub TextsAreOfOneAnswer : Type 0
-TextsAreOfOneAnswer =
-    (bytes : List ℕ) (one other : Answer) → IsText bytes one → IsText bytes other → one ≡ other
+TextsAreOfOneAnswer = (bytes : List ℕ) (one other : Answer) → IsText bytes one → IsText bytes other → one ≡ other
 
 -- The text of an answer within the limits is refused for nothing.
 abbrev pub TextsAreNotRefused : Type 0

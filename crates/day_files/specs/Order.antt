@@ -1,5 +1,5 @@
 -- The order in which files are read, and how far the reading comes.
-use Rattle.std.specs.Prelude.{ℕ, ◌≡◌, List, [], ◌∷◌, take}
+use Rattle.std.specs.Prelude.{ℕ, ◌≡◌, List, [], ◌∷◌}
 use Rattle.std.specs.List.{AllByRecursion}
 use Rattle.rail_io.specs.Folders.{Files}
 use Rattle.rail_csv.specs.declared.rows.Table.{Table}
@@ -7,23 +7,15 @@ use Rattle.rail_csv.specs.declared.rows.Table.TheVariants.{Types, Stations, Stoc
 use Rattle.timetable.specs.Day.{Day}
 use Rattle.day_files.specs.Tables.{RowsOf, IsFileOf, AreAcceptedAsDay}
 
--- the files in the order in which they are read
-abbrev pub in_order : List Table
-in_order = Types ∷ Stations ∷ Stock ∷ Trips ∷ Links ∷ Weights ∷ Plan ∷ []
-
--- the place of a table's file in that order, counted from 0
-abbrev pub reading_rank : Table → ℕ
-reading_rank Types = 0
-reading_rank Stations = 1
-reading_rank Stock = 2
-reading_rank Trips = 3
-reading_rank Links = 4
-reading_rank Weights = 5
-reading_rank Plan = 6
-
--- the files that are read before a table's file
+-- the files that are read before a table's file, in their order
 abbrev pub before : Table → List Table
-before table = take (reading_rank table) in_order
+before Types = []
+before Stations = Types ∷ []
+before Stock = Types ∷ Stations ∷ []
+before Trips = Types ∷ Stations ∷ Stock ∷ []
+before Links = Types ∷ Stations ∷ Stock ∷ Trips ∷ []
+before Weights = Types ∷ Stations ∷ Stock ∷ Trips ∷ Links ∷ []
+before Plan = Types ∷ Stations ∷ Stock ∷ Trips ∷ Links ∷ Weights ∷ []
 
 -- the file of a table is right by itself: it is a table of some rows
 abbrev pub IsRead : Files → List ℕ → Table → Type 0

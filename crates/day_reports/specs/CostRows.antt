@@ -40,5 +40,4 @@ cost_parts day lists = record {
 }
 
 unfoldable pub costs_text : Day → List (List ℕ) → List ℕ
-costs_text day lists =
-    rows_text (header_of cost_columns ∷ amount_rows (cost_parts day lists) (pos (cost_of day lists)))
+costs_text day lists = rows_text (header_of cost_columns ∷ amount_rows (cost_parts day lists) (pos (cost_of day lists)))

@@ -63,12 +63,8 @@ pub record YardRow : Type 0 where
 
 -- how many stand there at the start
 abbrev pub start_row : YardOf → YardRow
-start_row yard = record {
-  time = codes "start";
-  taken = 0;
-  ready = 0;
-  count = pos (start_of yard.day yard.station yard.unit_type);
-}
+start_row yard =
+    record { time = codes "start"; taken = 0; ready = 0; count = pos (start_of yard.day yard.station yard.unit_type) }
 
 -- what is taken at a departure minute, what became ready since the minute of the row before, and how many stand there
 -- after the takes
@@ -130,5 +126,4 @@ fields_of_station day lists s =
 
 -- the header, and all rows, station by station, where the trips have these lists of types
 unfoldable pub yards_text : Day → List (List ℕ) → List ℕ
-yards_text day lists =
-    rows_text (header_of yard_columns ∷ joined (fields_of_station day lists) (length day.stations))
+yards_text day lists = rows_text (header_of yard_columns ∷ joined (fields_of_station day lists) (length day.stations))

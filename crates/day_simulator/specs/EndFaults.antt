@@ -43,8 +43,7 @@ AllWereMade day state = (event : DayEvent) → trip_of event < length day.trips 
 pub record IsFirstUnmade (day : Day) (state : State) (event : DayEvent) : Type 0 where
   pub known : trip_of event < length day.trips
   pub unmade : ¬ WasMade state event
-  pub before : (other : DayEvent) → trip_of other < length day.trips → ComesBefore day other event
-      → WasMade state other
+  pub before : (other : DayEvent) → trip_of other < length day.trips → ComesBefore day other event → WasMade state other
 
 -- ---- yards
 

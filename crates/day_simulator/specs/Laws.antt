@@ -22,12 +22,10 @@ InEveryOrder = (day : Day) (plan : List (List ℕ)) (events : List DayEvent)
     → RunsInOrder day plan events
 
 -- In the fixed order, the day goes through to its end exactly where the plan runs, and costs what the plan costs.
-abbrev pub RunsExactly : Day → List (List ℕ) → Type 0
-RunsExactly day plan = (Runs day plan → simulation day plan ≡ Ok (plan_cost day plan))
-    × ((cost : ℕ) → simulation day plan ≡ Ok cost → Runs day plan × (cost ≡ plan_cost day plan))
-
 abbrev pub RunInFixedOrder : Type 0
-RunInFixedOrder = (day : Day) (plan : List (List ℕ)) → IsDay day → AreLinks day → IsPlan day plan → RunsExactly day plan
+RunInFixedOrder = (day : Day) (plan : List (List ℕ)) → IsDay day → AreLinks day → IsPlan day plan
+    → (Runs day plan → simulation day plan ≡ Ok (plan_cost day plan))
+    × ((cost : ℕ) → simulation day plan ≡ Ok cost → Runs day plan × (cost ≡ plan_cost day plan))
 
 -- the fault is none of the turn of an event
 abbrev pub IsInTurn : StepFault → Type 0

@@ -14,15 +14,14 @@ use Rattle.day_tables.specs.Build.{is_memory}
 use Rattle.day_tables.specs.Day.{Day}
 
 abbrev pub day_with : AcceptedRows → Day
-day_with rows =
-    record {
-      types = rows.types;
-      stations = rows.stations.items;
-      stock = rows.stock.items;
-      trips = rows.trips.items;
-      links = rows.links.items;
-      weights = rows.weights;
-    }
+day_with rows = record {
+  types = rows.types;
+  stations = rows.stations.items;
+  stock = rows.stock.items;
+  trips = rows.trips.items;
+  links = rows.links.items;
+  weights = rows.weights;
+}
 
 -- the entries of the day that was said, or its refusal; want of memory may come anyhow
 abbrev pub GivesDay : Result AcceptedRows InstanceRefusal → Result Day InstanceRefusal → Type 0

@@ -21,12 +21,11 @@ use Rattle.rules.specs.declared.records.Trip.{Trip}
 use Rattle.rules.specs.declared.records.Weights.{Weights}
 use Rattle.day_tables.specs.declared.building.tables.Tables.{Tables}
 use Rattle.day_tables.specs.declared.building.refusal.InstanceRefusal.{InstanceRefusal}
-use Rattle.day_tables.specs.declared.building.refusal.InstanceRefusal.TheVariants.{RepeatedName, UnknownName}
-use Rattle.day_tables.specs.declared.building.refusal.InstanceRefusal.TheVariants.{RepeatedStock}
-use Rattle.day_tables.specs.declared.building.refusal.InstanceRefusal.TheVariants.{ArrivalNotAfterDeparture}
+use Rattle.day_tables.specs.declared.building.refusal.InstanceRefusal.TheVariants.{ArrivalNotAfterDeparture, NoMemory}
+use Rattle.day_tables.specs.declared.building.refusal.InstanceRefusal.TheVariants.{RepeatedStock, TooManyCompositions}
+use Rattle.day_tables.specs.declared.building.refusal.InstanceRefusal.TheVariants.{RepeatedName, NoComposition}
+use Rattle.day_tables.specs.declared.building.refusal.InstanceRefusal.TheVariants.{UnknownName, TooManyUnits}
 use Rattle.day_tables.specs.declared.building.refusal.InstanceRefusal.TheVariants.{SameStation}
-use Rattle.day_tables.specs.declared.building.refusal.InstanceRefusal.TheVariants.{NoComposition, TooManyUnits}
-use Rattle.day_tables.specs.declared.building.refusal.InstanceRefusal.TheVariants.{TooManyCompositions, NoMemory}
 use Rattle.day_tables.specs.Compositions.{greatest_in}
 use Rattle.day_tables.specs.Day.{Day}
 use Rattle.day_tables.specs.LinkRows.{links_in}
@@ -38,15 +37,14 @@ use Rattle.day_tables.specs.Rowwise.{row_after, accept_each}
 
 -- the type that a row describes
 abbrev pub type_in : TypeRow → UnitType
-type_in row =
-    record {
-      name = row.name;
-      carriages = row.carriages;
-      seats = row.seats;
-      metres = row.metres;
-      family = row.family;
-      first = row.first;
-    }
+type_in row = record {
+  name = row.name;
+  carriages = row.carriages;
+  seats = row.seats;
+  metres = row.metres;
+  family = row.family;
+  first = row.first;
+}
 
 unfoldable pub accept_type : List UnitType → TypeRow → Result UnitType InstanceRefusal
 accept_type before row =
@@ -122,17 +120,16 @@ ends_in stations before row =
 
 -- the trip of a row between two stations
 abbrev pub trip_between : TripRow → ℕ → ℕ → Trip
-trip_between row from to =
-    record {
-      name = row.name;
-      from = from;
-      departure = row.departure;
-      to = to;
-      arrival = row.arrival;
-      km = row.km;
-      demand = row.demand;
-      first = row.first;
-    }
+trip_between row from to = record {
+  name = row.name;
+  from = from;
+  departure = row.departure;
+  to = to;
+  arrival = row.arrival;
+  km = row.km;
+  demand = row.demand;
+  first = row.first;
+}
 
 unfoldable pub accept_trip : List Station → List UnitType → List Trip → TripRow → Result Trip InstanceRefusal
 accept_trip stations types before row =

@@ -86,8 +86,7 @@ is_gone rows gone name = unwrap_or (option_map (λ t. has t gone) (find_name (λ
 
 -- the names of the trips of a link row
 abbrev pub names_in : LinkRow → List (List ℕ)
-names_in row =
-    (row.arriving ∷ option_to_list row.arriving2) ++ (row.departing ∷ option_to_list row.departing2)
+names_in row = (row.arriving ∷ option_to_list row.arriving2) ++ (row.departing ∷ option_to_list row.departing2)
 
 -- a link row names a trip whose row is gone
 unfoldable pub row_names_gone : List TripRow → List ℕ → LinkRow → Bool

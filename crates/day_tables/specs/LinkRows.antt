@@ -15,9 +15,8 @@ use Rattle.rules.specs.declared.records.LinkKind.{LinkKind}
 use Rattle.rules.specs.declared.records.LinkKind.TheVariants.{Turn, Join, Split}
 use Rattle.rules.specs.declared.records.Trip.{Trip}
 use Rattle.day_tables.specs.declared.building.refusal.InstanceRefusal.{InstanceRefusal}
-use Rattle.day_tables.specs.declared.building.refusal.InstanceRefusal.TheVariants.{UnknownName, TripUsedTwice}
-use Rattle.day_tables.specs.declared.building.refusal.InstanceRefusal.TheVariants.{WrongStation, TooEarly}
-use Rattle.day_tables.specs.declared.building.refusal.InstanceRefusal.TheVariants.{WrongLinkFields}
+use Rattle.day_tables.specs.declared.building.refusal.InstanceRefusal.TheVariants.{TripUsedTwice, WrongLinkFields}
+use Rattle.day_tables.specs.declared.building.refusal.InstanceRefusal.TheVariants.{UnknownName, WrongStation, TooEarly}
 use Rattle.day_tables.specs.Links.{arriving_in, departing_in}
 use Rattle.day_tables.specs.Lists.{of_entry, has}
 use Rattle.day_tables.specs.NamedEntries.{find_name, found_or}

@@ -44,14 +44,12 @@ NoneShortAt day lists s m = (k : ℕ) → k < length (minutes_of day s) → IsNo
 abbrev pub ShortIn : Day → List (List ℕ) → ℕ → Option StockFault → Type 0
 ShortIn day lists s fault = FirstIn (NoneShortAt day lists s) (IsShortAt day lists s) (length day.types) fault
 
-abbrev pub IsShortIn : Day → List (List ℕ) → ℕ → StockFault → Type 0
-IsShortIn day lists s fault = IsFirstIn (NoneShortAt day lists s) (IsShortAt day lists s) (length day.types) fault
-
 abbrev pub NoneShortIn : Day → List (List ℕ) → ℕ → Type 0
 NoneShortIn day lists s = (m : ℕ) → m < length day.types → NoneShortAt day lists s m
 
 abbrev pub ShortOn : Day → List (List ℕ) → Option StockFault → Type 0
-ShortOn day lists fault = FirstIn (NoneShortIn day lists) (IsShortIn day lists) (length day.stations) fault
+ShortOn day lists fault = FirstIn (NoneShortIn day lists)
+    (λ s. IsFirstIn (NoneShortAt day lists s) (IsShortAt day lists s) (length day.types)) (length day.stations) fault
 
 -- ---- ends
 
@@ -70,12 +68,9 @@ UnbalancedAt day lists s m fault = MatchOption fault (IsBalanced day lists s m) 
 abbrev pub UnbalancedIn : Day → List (List ℕ) → ℕ → Option StockFault → Type 0
 UnbalancedIn day lists s fault = FirstIn (IsBalanced day lists s) (IsUnbalanced day lists s) (length day.types) fault
 
-abbrev pub IsUnbalancedIn : Day → List (List ℕ) → ℕ → StockFault → Type 0
-IsUnbalancedIn day lists s fault =
-    IsFirstIn (IsBalanced day lists s) (IsUnbalanced day lists s) (length day.types) fault
-
 abbrev pub AllBalancedIn : Day → List (List ℕ) → ℕ → Type 0
 AllBalancedIn day lists s = (m : ℕ) → m < length day.types → IsBalanced day lists s m
 
 abbrev pub UnbalancedOn : Day → List (List ℕ) → Option StockFault → Type 0
-UnbalancedOn day lists fault = FirstIn (AllBalancedIn day lists) (IsUnbalancedIn day lists) (length day.stations) fault
+UnbalancedOn day lists fault = FirstIn (AllBalancedIn day lists)
+    (λ s. IsFirstIn (IsBalanced day lists s) (IsUnbalanced day lists s) (length day.types)) (length day.stations) fault

@@ -39,8 +39,7 @@ module _ (dir : List ℕ) where
   -- No day was read, for an error of its tables, and that came to this.
   pub record IsUnreadDay (before after : FolderState) (outcome : Outcome) : Type 0 where
     pub error : ReadError
-    pub of_tables : IsReadError {Y = Day} (λ read. read ≢ table.Plan) (λ files. day_in files dir) dir before after
-        error
+    pub of_tables : IsReadError {Y = Day} (λ read. read ≢ table.Plan) (λ files. day_in files dir) dir before after error
     pub is : outcome ≡ outcome_of_error error
 
   -- No day or no answer to it was read, for an error of its tables or of the file of the answer, or since memory ran

@@ -1,13 +1,9 @@
 -- The text of a time: two digits of the hour, a colon, two digits of the minute.
 use Rattle.std.specs.Prelude.{ℕ, List, [], ◌∷◌, ◌++◌, ◌+◌, ◌/◌, ◌%◌}
 
--- the byte of a digit
-abbrev pub digit_byte : ℕ → ℕ
-digit_byte digit = 48 + digit
-
 -- two digits of a number below 100
 abbrev pub two_digits : ℕ → List ℕ
-two_digits n = digit_byte (n / 10) ∷ digit_byte (n % 10) ∷ []
+two_digits n = (48 + n / 10) ∷ (48 + n % 10) ∷ []
 
 abbrev pub colon : ℕ
 colon = 58

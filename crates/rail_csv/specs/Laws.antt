@@ -7,9 +7,8 @@ use Rattle.rail_csv.specs.declared.refusal.TableRefusal.TheVariants.{WrongHeader
 use Rattle.rail_csv.specs.declared.rows.WeightsRow.{WeightsRow}
 use Rattle.rail_base.specs.declared.limits.TheConstants.{MAX_WEIGHT_ROWS}
 use Rattle.rail_csv.specs.declared.limits.TheConstants.{FEWEST_WEIGHT_COLUMNS}
-use Rattle.rail_csv.specs.Tables.{Columns, row_of, records_of, type_rows_of, station_rows_of, stock_rows_of}
-use Rattle.rail_csv.specs.Tables.{trip_rows_of, link_rows_of}
-use Rattle.rail_csv.specs.Tables.{weight_header, weight_columns, weights_row_of, plan_rows_of}
+use Rattle.rail_csv.specs.Tables.{row_of, station_rows_of, stock_rows_of, weight_header, weight_columns, weights_row_of}
+use Rattle.rail_csv.specs.Tables.{Columns, records_of, type_rows_of, trip_rows_of, link_rows_of, plan_rows_of}
 
 -- The first record is the header of a version with so many columns: the first words of all columns, those of the first
 -- version at least.

@@ -61,5 +61,4 @@ pub record IsSolved (problem : Meanings) (root : List (List Bool)) (grant : ℕ)
   -- it is infeasible exactly where there is no plan and no cost leaf
   pub infeasible : IsInfeasible found ↔ ((plan_found found ≡ None) × (bounds_of (nodes_found found) ≡ []))
   -- it is optimal exactly where there is a plan and no open leaf
-  pub optimal : IsOptimal found ↔
-      (IsSome (plan_found found) × ¬ HasOpenLeaf (plan_found found) (nodes_found found))
+  pub optimal : IsOptimal found ↔ (IsSome (plan_found found) × ¬ HasOpenLeaf (plan_found found) (nodes_found found))

@@ -1,7 +1,6 @@
 -- What an improver is shown of a node, and what the improvements that it proposes make of the node and of the best
 -- solution.
-use Rattle.std.specs.Prelude.{ℕ, zero, suc, ◌≡◌, List, [], ◌∷◌, Bool, true, IsTrue, Option, Some, None}
-use Rattle.std.specs.Prelude.{if◌then◌else◌}
+use Rattle.std.specs.Prelude.{ℕ, zero, suc, ◌≡◌, List, [], ◌∷◌, Bool, true, IsTrue, Option, Some, None, if◌then◌else◌}
 use Rattle.branch_tree.specs.declared.multipliers.Entry.{Entry}
 use Rattle.branch_tree.specs.Bounds.{AreSlacks}
 use Rattle.branch_tree.specs.Claims.{CostedPicks, is_below}
@@ -13,16 +12,13 @@ use Rattle.improvers.specs.declared.improver.Seen.{Seen}
 use Rattle.search.specs.declared.work.Work.{Work}
 use Rattle.search.specs.NodesInWork.{IsConsidered, is_open_work, remembering}
 
--- a plan where it costs less than the best one, or is the first; else the best one
-abbrev pub or_cheaper : CostedPicks → Option CostedPicks → Option CostedPicks
-or_cheaper plan best = if is_below plan.cost best then Some plan else best
-
 -- Picks were proposed: where they lie in the root and are a solution, they are the best one where they cost less; and
 -- else the best one stays.
 pub record IsProposed (problem : Meanings) (root : List (List Bool)) (picks : List ℕ)
     (before after : Option CostedPicks) : Type 0 where
   pub taken : IsTrue (are_in picks root) → problem.IsSolution picks →
-      after ≡ or_cheaper (record { cost = problem.cost picks; picks = picks }) before
+      after ≡ (if is_below (problem.cost picks) before then Some (record { cost = problem.cost picks; picks = picks })
+      else before)
   pub passed : (IsTrue (are_in picks root) → problem.IsSolution picks → ⊥) → after ≡ before
 
 -- picks were proposed one after another

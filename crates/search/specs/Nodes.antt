@@ -109,8 +109,7 @@ tree_nodes nodes = map tree_node nodes
 
 -- the nodes after the one at a place is branched
 abbrev pub branched : List SearchNode → ℕ → Cut → SearchNode → SearchNode → List SearchNode
-branched nodes place cut left right =
-    take place nodes ++ (Fixed (Branch cut) ∷ left ∷ right ∷ drop (suc place) nodes)
+branched nodes place cut left right = take place nodes ++ (Fixed (Branch cut) ∷ left ∷ right ∷ drop (suc place) nodes)
 
 -- a division of the open node at a place of searched nodes
 pub record IsDivisionAt (problem : Meanings) (best : Option CostedPicks) (nodes : List SearchNode) (place : ℕ)

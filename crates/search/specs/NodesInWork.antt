@@ -43,14 +43,8 @@ pub record Advances (problem : Meanings) (searched : List (List Bool)) (earlier 
 
 -- a node in work after its first evaluation
 abbrev pub begun : List (List Bool) → Evaluation → Work
-begun region evaluation = record {
-  region = region;
-  first = evaluation.value;
-  kept = evaluation;
-  last = evaluation;
-  cut = None;
-  end = None;
-}
+begun region evaluation =
+    record { region = region; first = evaluation.value; kept = evaluation; last = evaluation; cut = None; end = None }
 
 -- whether a bound leaves room for a better solution, where the end of the region is not shown
 abbrev pub left_by : Bool → Option Ending → Bool

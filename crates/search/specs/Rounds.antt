@@ -19,12 +19,8 @@ pub record AdviceState (A : Type 0) : Type 0 where
   pub work : Work
 
 abbrev pub advice_state : {A : Type 0} → List A → NodeAdvice → Option CostedPicks → Work → AdviceState A
-advice_state advisors advice best work = record {
-  advisors = advisors;
-  enough = advice.has_enough.items;
-  best = best;
-  work = work;
-}
+advice_state advisors advice best work =
+    record { advisors = advisors; enough = advice.has_enough.items; best = best; work = work }
 
 -- the advisor at a place is to be asked: the node is open, and it has not said `Enough` for this node and has not quit
 pub record IsToBeAsked {A : Type 0} (has_quit : A → Bool) (place : ℕ) (state : AdviceState A) : Type 0 where
@@ -92,10 +88,5 @@ abbrev pub AreAdvised : {A : Type 0} → (A → Bool) → CallTest A → Meaning
     Option CostedPicks → Work → Work → Type 0
 AreAdvised has_quit has_answered problem rounds advisors later earlier best before after = (enough : List Bool) ×
     AreRounds has_quit has_answered problem rounds
-    (record {
-      advisors = advisors;
-      enough = replicate (length advisors) false;
-      best = earlier;
-      work = before;
-    })
+    (record { advisors = advisors; enough = replicate (length advisors) false; best = earlier; work = before })
     (record { advisors = later; enough = enough; best = best; work = after })

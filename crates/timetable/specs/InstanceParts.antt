@@ -19,15 +19,14 @@ use Rattle.timetable.specs.Minutes.{minutes_of}
 use Rattle.timetable.specs.Within.{IsDayWithin}
 
 abbrev pub day_in : Inside → Day
-day_in a =
-    record {
-      types = a.types;
-      stations = a.stations.items;
-      stock = a.stock.items;
-      trips = a.trips.items;
-      links = a.links.items;
-      weights = a.weights;
-    }
+day_in a = record {
+  types = a.types;
+  stations = a.stations.items;
+  stock = a.stock.items;
+  trips = a.trips.items;
+  links = a.links.items;
+  weights = a.weights;
+}
 
 -- the units are those of the day, the links are those that name each trip, and the day is within the limits
 pub record Holds (a : Inside) : Type 0 where

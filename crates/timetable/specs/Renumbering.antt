@@ -92,13 +92,11 @@ before_unit units u = count_below (is_at units (units.home u) (units.unit_type u
 
 -- the k-th unit of a type at a station is given the number of the k-th of the others of this type there
 unfoldable pub kth_number : Units → Units → ℕ → ℕ
-kth_number units others u =
-    unit_after others (units.home u) (units.unit_type u) (before_unit units u) others.count
+kth_number units others u = unit_after others (units.home u) (units.unit_type u) (before_unit units u) others.count
 
 -- as many come before its number as before the unit
 abbrev pub AreKth : Units → Units → Type 0
-AreKth units others =
-    (u : ℕ) → u < units.count → before_unit others (kth_number units others u) ≡ before_unit units u
+AreKth units others = (u : ℕ) → u < units.count → before_unit others (kth_number units others u) ≡ before_unit units u
 
 -- where no fewer of the others, of each type, stand at each station, these numbers are among them
 pub record AreKthAmong (units others : Units) : Type 0 where

@@ -33,8 +33,7 @@ pub record HasTripsOf (day later : Day) (old : ℕ → ℕ) : Type 0 where
 
 -- it has each trip that leaves before the minute, and each link by which one does
 pub record HasPastOf (day later : Day) (old : ℕ → ℕ) (minute : ℕ) : Type 0 where
-  pub trips : (t : ℕ) → t < length day.trips → leaves day t < minute
-      → (s : ℕ) × (s < length later.trips) × (old s ≡ t)
+  pub trips : (t : ℕ) → t < length day.trips → leaves day t < minute → (s : ℕ) × (s < length later.trips) × (old s ≡ t)
   pub links : (l b : ℕ) (link : Link) → slice_get day.links l ≡ Some link → IsTrue (has b (departing_in link.kind))
       → leaves day b < minute
       → (k : ℕ) × (same : Link) × (slice_get later.links k ≡ Some same) × (link_with old same ≡ link)

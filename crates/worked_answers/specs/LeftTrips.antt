@@ -21,8 +21,7 @@ pub record RunsAsBefore (day : Day) (gone : List ℕ) (t : ℕ) : Type 0 where
   pub arriving : arrives (without_trips gone day) t ≡ arrives day (old_number day gone t)
   pub origin : from_of (without_trips gone day) t ≡ from_of day (old_number day gone t)
   pub goal : to_of (without_trips gone day) t ≡ to_of day (old_number day gone t)
-  pub cost : (types : List ℕ)
-      → trip_cost (without_trips gone day) t types ≡ trip_cost day (old_number day gone t) types
+  pub cost : (types : List ℕ) → trip_cost (without_trips gone day) t types ≡ trip_cost day (old_number day gone t) types
 
 -- each trip of then runs as one did, no two as one, and one as each trip that is not gone
 pub record RunAsBefore (day : Day) (gone : List ℕ) : Type 0 where

@@ -36,8 +36,7 @@ AnswersHoldOfUnits = (day : Day) (units : Units) (grant : ℕ) (answer : Answer)
 
 -- these stock rows say more units, and as many more are wanted at the end where they stand
 pub record IsLargerFleet (day : Day) (rows : List Stock) : Type 0 where
-  pub more : (s m : ℕ)
-      → standing_at (stock_units day) s m ≤ standing_at (stock_units (with_stock rows day)) s m
+  pub more : (s m : ℕ) → standing_at (stock_units day) s m ≤ standing_at (stock_units (with_stock rows day)) s m
   pub wanted : (s m : ℕ) → s < length day.stations → m < length day.types
       → wanted_of (with_stock rows day) s m + standing_at (stock_units day) s m
       ≡ wanted_of day s m + standing_at (stock_units (with_stock rows day)) s m

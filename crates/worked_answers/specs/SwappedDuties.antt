@@ -22,8 +22,7 @@ pub record AreSwapped (units : Units) (day : Day) (plan : List (List ℕ)) (u v 
   pub cost : plan_cost_of units day (plan_swapped u v plan) ≡ plan_cost_of units day plan
   pub first : duty day (plan_swapped u v plan) u ≡ duty day plan v
   pub second : duty day (plan_swapped u v plan) v ≡ duty day plan u
-  pub others : (w : ℕ) → w < units.count → w ≢ u → w ≢ v
-      → duty day (plan_swapped u v plan) w ≡ duty day plan w
+  pub others : (w : ℕ) → w < units.count → w ≢ u → w ≢ v → duty day (plan_swapped u v plan) w ≡ duty day plan w
 
 -- Two units of one type that stand at one station at the start of the day may run each other's duties.
 abbrev pub UnitsMaySwap : Type 0
