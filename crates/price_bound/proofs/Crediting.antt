@@ -1,5 +1,5 @@
--- A table that is filled row by row with sums has the credits.
-use Rattle.std.proofs.Common.{◌≡◌, ◌≢◌, ℕ, suc, ◌+◌, ◌<◌, List, [], length, set, get_or, Option, refl, sym, ap, ◌∙◌, subst}
+-- Tables that are filled trip by trip with sums have the credits and the debits.
+use Rattle.std.proofs.Common.{◌≡◌, ◌≢◌, ℕ, suc, ◌+◌, ◌<◌, Bool, List, [], length, set, get_or, Option, refl, sym, ap, ◌∙◌, subst}
 use Rattle.std.proofs.Common.{arith, ℤ, pos, inl, inr, length-set, unwrap_or}
 use Rattle.std.specs.List.{All}
 use Rattle.std.proofs.lemmas.Bool.{cases_eq}
@@ -9,10 +9,13 @@ use Rattle.timetable.specs.Day.{Day}
 use Rattle.timetable.proofs.Picking.{types_known}
 use Rattle.branch_tree.specs.declared.multipliers.Entry.{Entry}
 use Rattle.branch_tree.specs.Entries.{AreMultipliers}
+use Rattle.price_bound.specs.declared.credits.Kept.{Kept}
+use Rattle.price_bound.specs.declared.credits.UnitSums.{UnitSums}
 use Rattle.price_bound.specs.declared.price_tables.PriceTables.{PriceTables}
-use Rattle.price_bound.specs.CellSizes.{IsSmall, most_units_price}
-use Rattle.price_bound.specs.Credits.{AreAllByType, AreAllSums, AreCredits, AreDebits, AreRowsBut, AreSumsBelow}
-use Rattle.price_bound.specs.Credits.{AreSumsIn, IsRowSummed, put_in}
+use Rattle.price_bound.specs.Credits.{AreAllByType, AreRowsBut, AreSumsBelow, AreSumsFor}
+use Rattle.price_bound.specs.Credits.{AreSumsPriced, AreTripSums, IsRowSummed, IsSumAt, IsTripPut}
+use Rattle.price_bound.specs.Credits.{IsUnitPrice, is_whole, put_in}
+use Rattle.price_bound.specs.YardPrices.{giving, taking}
 use Rattle.price_bound.specs.PriceTables.{ArePrices, HasSize, amount_at}
 use Rattle.price_bound.proofs.Steps.{entry_below}
 use Rattle.price_bound.proofs.Summing.{gives_small, giving_is, takes_small, taking_is, types_below}
@@ -67,19 +70,31 @@ summed_size day amounts t table new size is = record {
 }
 
 -- one row more
-pub below_more : (day : Day) (amounts table new : List (List ℤ)) (trip : ℕ) → AreSumsBelow day amounts trip table
-    → AreSumsIn day (get_or amounts trip []) trip (length (compositions_of day)) new → AreRowsBut trip table new
-    → AreSumsBelow day amounts (trip + 1) new
-below_more day amounts table new trip done here others t lt = elim (cases_eq t trip) [
-  | inl same ↦ subst (λ (k : ℕ). AreSumsIn day (get_or amounts k []) k (length (compositions_of day)) new) (sym same) here
+pub below_more : (day : Day) (region : List (List Bool)) (kept new_kept : List Kept) (amounts table new : List (List ℤ)) (trip : ℕ)
+    → AreSumsBelow day region kept amounts trip table
+    → AreSumsFor day region new_kept (get_or amounts trip []) trip (get_or new trip [])
+    → ((other : ℕ) → other ≢ trip → is_whole new_kept other ≡ is_whole kept other) → AreRowsBut trip table new
+    → AreSumsBelow day region new_kept amounts (trip + 1) new
+below_more day region kept new_kept amounts table new trip done here same_kept others t lt = elim (cases_eq t trip) [
+  | inl same ↦ subst (λ (k : ℕ). AreSumsFor day region new_kept (get_or amounts k []) k (get_or new k [])) (sym same) here
   | inr differ ↦
-      let row : get_or new t [] ≡ get_or table t [] = others t differ in
-      let before : AreSumsIn day (get_or amounts t []) t (length (compositions_of day)) table = done t (omega (arith, lt, differ)) in
+      let row : get_or table t [] ≡ get_or new t [] = sym (others t differ) in
+      let before : AreSumsFor day region kept (get_or amounts t []) t (get_or table t []) = done t (omega (arith, lt, differ)) in
       record {
-        values = λ c below. ap (λ (xs : List ℤ). get_or xs c (pos 0)) row ∙ before.values c below;
-        small = λ c below. subst (λ (xs : List ℤ). IsSmall most_units_price (get_or xs c (pos 0))) (sym row) (before.small c below);
+        whole = λ c below is. subst (IsSumAt day (get_or amounts t []) c) row (before.whole c below (sym (same_kept t differ) ∙ is));
+        members = λ c below is. subst (IsSumAt day (get_or amounts t []) c) row (before.members c below is);
       }
 ]
+
+-- one trip more
+pub trips_more : (day : Day) (region : List (List Bool)) (gives takes : List (List ℤ)) (trip : ℕ) (sums new : UnitSums)
+    → AreTripSums day region gives takes trip sums → IsTripPut day region (get_or gives trip []) (get_or takes trip []) trip sums new
+    → AreTripSums day region gives takes (trip + 1) new
+trips_more day region gives takes trip sums new done put = record {
+  room = put.room;
+  credits = below_more day region sums.kept.items new.kept.items gives sums.credits new.credits trip done.credits put.credits put.other_kept put.other_credits;
+  debits = below_more day region sums.kept.items new.kept.items takes sums.debits new.debits trip done.debits put.debits put.other_kept put.other_debits;
+}
 
 -- ---- the credits and the debits
 
@@ -89,21 +104,35 @@ known day c below =
     subst (All (λ (m : ℕ). m < length day.types)) (sym (ap (λ (o : Option (List ℕ)). unwrap_or o []) at))
     (types_below day.types ms (types_known day.types (greatest_platform day) c ms at))
 
-module _ (day : Day) (entries : List Entry) (tables : PriceTables) (table : List (List ℤ)) (prices : ArePrices day entries tables) where
-  pub credits_are : AreAllSums day tables.gives table → AreCredits day entries table
-  credits_are all = record {
-    sized = all.sized;
-    values = λ t c lt below. (all.sums t lt).values c below
-        ∙ giving_is day entries tables prices t lt (composition_at day c) (known day c below);
-    small = λ t c lt below. (all.sums t lt).small c below;
+module _ (day : Day) (region : List (List Bool)) (entries : List Entry) (tables : PriceTables) (sums : UnitSums) (prices : ArePrices day entries tables)
+    (are : AreTripSums day region tables.gives tables.takes (length day.trips) sums) where
+  credit_at : (t c : ℕ) → t < length day.trips → c < length (compositions_of day) → IsSumAt day (get_or tables.gives t []) c (get_or sums.credits t [])
+      → IsUnitPrice day (giving day entries) sums.credits t c
+  credit_at t c lt below is = record {
+    value = is.value ∙ giving_is day entries tables prices t lt (composition_at day c) (known day c below);
+    small = is.small;
   }
 
-  pub debits_are : AreAllSums day tables.takes table → AreDebits day entries table
-  debits_are all = record {
-    sized = all.sized;
-    values = λ t c lt below. (all.sums t lt).values c below
-        ∙ taking_is day entries tables prices t lt (composition_at day c) (known day c below);
-    small = λ t c lt below. (all.sums t lt).small c below;
+  debit_at : (t c : ℕ) → t < length day.trips → c < length (compositions_of day) → IsSumAt day (get_or tables.takes t []) c (get_or sums.debits t [])
+      → IsUnitPrice day (taking day entries) sums.debits t c
+  debit_at t c lt below is = record {
+    value = is.value ∙ taking_is day entries tables prices t lt (composition_at day c) (known day c below);
+    small = is.small;
+  }
+
+  pub sums_priced : AreSumsPriced day region entries sums
+  sums_priced = record {
+    kept = are.room.kept;
+    credits = record {
+      sized = are.room.credits;
+      whole = λ t c lt below is. credit_at t c lt below ((are.credits t lt).whole c below is);
+      members = λ t c lt below is. credit_at t c lt below ((are.credits t lt).members c below is);
+    };
+    debits = record {
+      sized = are.room.debits;
+      whole = λ t c lt below is. debit_at t c lt below ((are.debits t lt).whole c below is);
+      members = λ t c lt below is. debit_at t c lt below ((are.debits t lt).members c below is);
+    };
   }
 
 -- the prices of units of each type are small

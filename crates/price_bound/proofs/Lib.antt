@@ -2,6 +2,7 @@ mod Steps
 pub mod Solving
 mod Ordering
 mod Meeting
+mod MemberSums
 mod Breaking
 mod Ruling
 pub mod Whole

@@ -1,5 +1,5 @@
 -- What is found once for a trip, a turn, a join or a split is what the tables have for it.
-use Rattle.std.proofs.Common.{◌≡◌, ℕ, suc, ◌<◌, List, [], length, get_or, true, false, Bool, Option, Some, None, sym, ap}
+use Rattle.std.proofs.Common.{◌≡◌, ℕ, ◌<◌, List, [], length, get_or, true, false, Bool, Option, Some, None, sym, ap}
 use Rattle.std.proofs.Common.{◌∙◌, subst, arith, ℤ, pos}
 use Rattle.std.specs.Prelude.{IfSome, if◌then◌else◌, int_lt, option_map}
 use Rattle.std.specs.List.{All}
@@ -19,8 +19,9 @@ use Rattle.price_bound.specs.TripAndLinkPrices.{IsForTurn}
 use Rattle.price_bound.specs.CellSizes.{IsSmall, most_price, most_units_price}
 use Rattle.price_bound.specs.ChainStages.{Priced, part_is_in, price_by_link, price_of}
 use Rattle.price_bound.specs.Costs.{IsCostOf, cost_in}
-use Rattle.price_bound.specs.Credits.{AreSmallAmounts, AreUnitPrices, sum_in}
+use Rattle.price_bound.specs.Credits.{AreSmallAmounts, IsUnitPrice, sum_in}
 use Rattle.price_bound.specs.EdgeValues.{coupling_value, edge_value, part_multiplier, turn_value, uncoupling_value}
+use Rattle.price_bound.specs.PriceTables.{HasSize}
 use Rattle.price_bound.specs.Pricing.{ArePriced, priced_by}
 use Rattle.price_bound.specs.Regrouped.{second_price}
 use Rattle.price_bound.specs.YardPrices.{giving, taking}
@@ -32,17 +33,17 @@ use Rattle.price_bound.proofs.Summing.{giving_is, gives_small, taking_is, takes_
 -- ---- rows of tables
 
 -- a row of credits or debits
-module _ (day : Day) (price : ℕ → List ℕ → ℤ) (table : List (List ℤ)) (is : AreUnitPrices day price table) (t : ℕ)
-    (known : t < length day.trips) (row : List ℤ) (at : row ≡ get_or table t []) where
-  pub unit_price_at : (comp : ℕ) → comp < length (compositions_of day) → get_or row comp (pos 0) ≡ price t (composition_at day comp)
-  unit_price_at comp below = ap (λ (amounts : List ℤ). get_or amounts comp (pos 0)) at ∙ is.values t comp known below
+module _ (day : Day) (price : ℕ → List ℕ → ℤ) (table : List (List ℤ)) (t comp : ℕ) (is : IsUnitPrice day price table t comp)
+    (row : List ℤ) (at : row ≡ get_or table t []) where
+  pub unit_price_at : get_or row comp (pos 0) ≡ price t (composition_at day comp)
+  unit_price_at = ap (λ (amounts : List ℤ). get_or amounts comp (pos 0)) at ∙ is.value
 
-  pub unit_price_small : (comp : ℕ) → comp < length (compositions_of day) → IsSmall most_units_price (get_or row comp (pos 0))
-  unit_price_small comp below =
-      subst (λ (amounts : List ℤ). IsSmall most_units_price (get_or amounts comp (pos 0))) (sym at) (is.small t comp known below)
+  pub unit_price_small : IsSmall most_units_price (get_or row comp (pos 0))
+  unit_price_small = subst (λ (amounts : List ℤ). IsSmall most_units_price (get_or amounts comp (pos 0))) (sym at) is.small
 
-  pub unit_prices_long : length row ≡ suc (length (compositions_of day))
-  unit_prices_long = ap length at ∙ is.sized.widths t known
+pub unit_prices_long : (rows columns : ℕ) (table : List (List ℤ)) → HasSize rows columns table → (t : ℕ) → t < rows → (row : List ℤ)
+    → row ≡ get_or table t [] → length row ≡ columns
+unit_prices_long rows columns table sized t known row at = ap length at ∙ sized.widths t known
 
 module _ (pricing : Pricing) (is : ArePriced pricing) (t : ℕ) (known : t < length pricing.instance.now.trips) where
   abbrev day : Day

@@ -1,10 +1,14 @@
 -- Credits and debits: for each trip and composition the price of the composition's units, where the trip gives them,
 -- and where it takes them.
-use Rattle.std.specs.Prelude.{ℕ, ◌≡◌, ◌≢◌, ◌<◌, suc, List, [], length, get_or, set, ℤ, pos}
+use Rattle.std.specs.Prelude.{ℕ, ◌≡◌, ◌≢◌, ◌<◌, suc, List, [], length, get_or, set, ℤ, pos, Bool, true, false}
 use Rattle.timetable.specs.Compositions.{compositions_of, composition_at}
 use Rattle.timetable.specs.Day.{Day}
 use Rattle.branch_tree.specs.declared.multipliers.Entry.{Entry}
 use Rattle.branch_tree.specs.IntSums.{int_sum}
+use Rattle.branch_tree.specs.Regions.{has}
+use Rattle.price_bound.specs.declared.credits.Kept.{Kept}
+use Rattle.price_bound.specs.declared.credits.Kept.TheVariants.{Members, Whole, Many}
+use Rattle.price_bound.specs.declared.credits.UnitSums.{UnitSums}
 use Rattle.price_bound.specs.CellSizes.{IsSmall, most_price, most_units_price}
 use Rattle.price_bound.specs.PriceTables.{HasSize, amount_at}
 use Rattle.price_bound.specs.YardPrices.{giving, taking}
@@ -52,19 +56,48 @@ pub record HasSumRoom (day : Day) (t : ℕ) (table : List (List ℤ)) : Type 0 w
   pub within : t < length table
   pub long : length (get_or table t []) ≡ suc (length (compositions_of day))
 
--- a row of a table has the sums
-abbrev pub AreSumsIn : Day → List ℤ → ℕ → ℕ → List (List ℤ) → Type 0
-AreSumsIn day amounts t comps table = AreRowSums day amounts comps (get_or table t [])
+-- a trip has the sums of all compositions
+abbrev pub is_of_all : Kept → Bool
+is_of_all Members = false
+is_of_all Whole = true
+is_of_all Many = true
 
--- it has them in the rows below a number
-abbrev pub AreSumsBelow : Day → List (List ℤ) → ℕ → List (List ℤ) → Type 0
-AreSumsBelow day amounts trips table =
-    (t : ℕ) → t < trips → AreSumsIn day (get_or amounts t []) t (length (compositions_of day)) table
+abbrev pub is_whole : List Kept → ℕ → Bool
+is_whole kept t = is_of_all (get_or kept t Members)
 
--- it has them in all rows, with a place more for no units
-pub record AreAllSums (day : Day) (amounts table : List (List ℤ)) : Type 0 where
-  pub sized : HasSize (length day.trips) (suc (length (compositions_of day))) table
-  pub sums : AreSumsBelow day amounts (length day.trips) table
+-- a row has the sum over the types of a composition
+pub record IsSumAt (day : Day) (amounts : List ℤ) (c : ℕ) (row : List ℤ) : Type 0 where
+  pub value : get_or row c (pos 0) ≡ sum_in amounts (composition_at day c)
+  pub small : IsSmall most_units_price (get_or row c (pos 0))
+
+-- it has those of the members of a set that are below a number
+abbrev pub AreMemberSums : Day → List ℤ → (ℕ → Bool) → ℕ → List ℤ → Type 0
+AreMemberSums day amounts member comps row =
+    (c : ℕ) → c < comps → c < length (compositions_of day) → member c ≡ true → IsSumAt day amounts c row
+
+-- it has those that a trip keeps in a region: those of all compositions, or of the members of its set
+pub record AreSumsFor (day : Day) (region : List (List Bool)) (kept : List Kept) (amounts : List ℤ) (t : ℕ)
+    (row : List ℤ) : Type 0 where
+  pub whole : (c : ℕ) → c < length (compositions_of day) → is_whole kept t ≡ true → IsSumAt day amounts c row
+  pub members : (c : ℕ) → c < length (compositions_of day) → has region t c ≡ true → IsSumAt day amounts c row
+
+-- a table has them in the rows below a number
+abbrev pub AreSumsBelow : Day → List (List Bool) → List Kept → List (List ℤ) → ℕ → List (List ℤ) → Type 0
+AreSumsBelow day region kept amounts trips table =
+    (t : ℕ) → t < trips → AreSumsFor day region kept (get_or amounts t []) t (get_or table t [])
+
+-- there is room for the sums of each trip and composition, and a place more for no units
+pub record HaveSumRoom (day : Day) (sums : UnitSums) : Type 0 where
+  pub credits : HasSize (length day.trips) (suc (length (compositions_of day))) sums.credits
+  pub debits : HasSize (length day.trips) (suc (length (compositions_of day))) sums.debits
+  pub kept : length sums.kept.items ≡ length day.trips
+
+-- the sums of the first trips are there, of what they give and take units for
+pub record AreTripSums (day : Day) (region : List (List Bool)) (gives takes : List (List ℤ)) (trips : ℕ)
+    (sums : UnitSums) : Type 0 where
+  pub room : HaveSumRoom day sums
+  pub credits : AreSumsBelow day region sums.kept.items gives trips sums.credits
+  pub debits : AreSumsBelow day region sums.kept.items takes trips sums.debits
 
 -- the rows of a table but one are those of another
 abbrev pub AreRowsBut : ℕ → List (List ℤ) → List (List ℤ) → Type 0
@@ -76,17 +109,49 @@ pub record IsRowSummed (day : Day) (amounts : List ℤ) (t : ℕ) (table new : L
   pub row : AreSumsOf day amounts (get_or new t [])
   pub others : AreRowsBut t table new
 
--- a table has for each trip and composition a price of the composition's units, and a place more for no units
-pub record AreUnitPrices (day : Day) (price : ℕ → List ℕ → ℤ) (table : List (List ℤ)) : Type 0 where
+-- the sums of a composition are put for a trip
+pub record AreSumsPut (day : Day) (gives takes : List ℤ) (t c : ℕ) (sums new : UnitSums) : Type 0 where
+  pub kept : new.kept.items ≡ sums.kept.items
+  pub credits : new.credits ≡ put_in t c (sum_in gives (composition_at day c)) sums.credits
+  pub debits : new.debits ≡ put_in t c (sum_in takes (composition_at day c)) sums.debits
+
+-- those of the members of a set that are below a number are put for a trip, and nothing for others
+pub record AreMembersPut (day : Day) (gives takes : List ℤ) (t : ℕ) (member : ℕ → Bool) (comps : ℕ)
+    (sums new : UnitSums) : Type 0 where
+  pub room : HaveSumRoom day new
+  pub kept : new.kept.items ≡ sums.kept.items
+  pub credits : AreMemberSums day gives member comps (get_or new.credits t [])
+  pub debits : AreMemberSums day takes member comps (get_or new.debits t [])
+  pub other_credits : AreRowsBut t sums.credits new.credits
+  pub other_debits : AreRowsBut t sums.debits new.debits
+
+-- those that a trip keeps are put, and nothing for others
+pub record IsTripPut (day : Day) (region : List (List Bool)) (gives takes : List ℤ) (t : ℕ) (sums new : UnitSums)
+    : Type 0 where
+  pub room : HaveSumRoom day new
+  pub credits : AreSumsFor day region new.kept.items gives t (get_or new.credits t [])
+  pub debits : AreSumsFor day region new.kept.items takes t (get_or new.debits t [])
+  pub other_kept : (other : ℕ) → other ≢ t → is_whole new.kept.items other ≡ is_whole sums.kept.items other
+  pub other_credits : AreRowsBut t sums.credits new.credits
+  pub other_debits : AreRowsBut t sums.debits new.debits
+
+-- a table has the price of a composition's units for a trip
+pub record IsUnitPrice (day : Day) (price : ℕ → List ℕ → ℤ) (table : List (List ℤ)) (t c : ℕ) : Type 0 where
+  pub value : amount_at table t c ≡ price t (composition_at day c)
+  pub small : IsSmall most_units_price (amount_at table t c)
+
+-- it has it for each trip and composition that the trip keeps in a region, and a place more for no units
+pub record AreUnitPrices (day : Day) (region : List (List Bool)) (kept : List Kept) (price : ℕ → List ℕ → ℤ)
+    (table : List (List ℤ)) : Type 0 where
   pub sized : HasSize (length day.trips) (suc (length (compositions_of day))) table
-  pub values : (t c : ℕ) → t < length day.trips → c < length (compositions_of day)
-      → amount_at table t c ≡ price t (composition_at day c)
-  pub small : (t c : ℕ) → t < length day.trips → c < length (compositions_of day)
-      → IsSmall most_units_price (amount_at table t c)
+  pub whole : (t c : ℕ) → t < length day.trips → c < length (compositions_of day) → is_whole kept t ≡ true
+      → IsUnitPrice day price table t c
+  pub members : (t c : ℕ) → t < length day.trips → c < length (compositions_of day) → has region t c ≡ true
+      → IsUnitPrice day price table t c
 
--- the credits under multipliers, and the debits
-abbrev pub AreCredits : Day → List Entry → List (List ℤ) → Type 0
-AreCredits day entries table = AreUnitPrices day (giving day entries) table
-
-abbrev pub AreDebits : Day → List Entry → List (List ℤ) → Type 0
-AreDebits day entries table = AreUnitPrices day (taking day entries) table
+-- the credits and the debits under multipliers
+pub record AreSumsPriced (day : Day) (region : List (List Bool)) (entries : List Entry) (sums : UnitSums)
+    : Type 0 where
+  pub kept : length sums.kept.items ≡ length day.trips
+  pub credits : AreUnitPrices day region sums.kept.items (giving day entries) sums.credits
+  pub debits : AreUnitPrices day region sums.kept.items (taking day entries) sums.debits

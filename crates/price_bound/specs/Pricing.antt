@@ -7,18 +7,17 @@ use Rattle.price_bound.specs.declared.priced.Pricing.{Pricing}
 use Rattle.price_bound.specs.ChainStages.{Priced}
 use Rattle.price_bound.specs.CompositionTrees.{AreTrains}
 use Rattle.price_bound.specs.Costs.{AreCosts}
-use Rattle.price_bound.specs.Credits.{AreCredits, AreDebits}
+use Rattle.price_bound.specs.Credits.{AreSumsPriced}
 use Rattle.price_bound.specs.PriceTables.{ArePrices}
 
--- the edges are the day's, the tables hold its costs, the prices under the multipliers, the credits and the debits, and
--- the region has a set for each trip
+-- the edges are the day's, the tables hold its costs, the prices under the multipliers, the credits and the debits that
+-- are asked for in the region, and the region has a set for each trip
 pub record ArePriced (pricing : Pricing) : Type 0 where
   pub graphs_are : AreGraphs pricing.instance.now pricing.graphs.now
   pub multipliers_are : AreMultipliers pricing.multipliers.now
   pub costs : AreCosts pricing.instance.now pricing.changes.now pricing.costs.now
   pub prices : ArePrices pricing.instance.now pricing.multipliers.now pricing.tables.now
-  pub credits : AreCredits pricing.instance.now pricing.multipliers.now pricing.credits.now
-  pub debits : AreDebits pricing.instance.now pricing.multipliers.now pricing.debits.now
+  pub sums : AreSumsPriced pricing.instance.now pricing.region.now pricing.multipliers.now pricing.sums.now
   pub trains : AreTrains pricing.instance.now pricing.trains.now
   pub over : length pricing.region.now ≡ length pricing.instance.now.trips
 

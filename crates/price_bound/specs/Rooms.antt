@@ -1,5 +1,5 @@
 -- The room in which the bounds of a day are found.
-use Rattle.std.specs.Prelude.{◌≡◌, suc, List, length}
+use Rattle.std.specs.Prelude.{◌≡◌, List, length}
 use Rattle.inventory.specs.Loaded.{Loaded}
 use Rattle.transitions.specs.declared.edge.Edge.{Edge}
 use Rattle.price_bound.specs.declared.changes.Change.{Change}
@@ -10,15 +10,15 @@ use Rattle.price_bound.specs.CellRows.{HaveRoom}
 use Rattle.price_bound.specs.ChangedDays.{AreChanges}
 use Rattle.price_bound.specs.CompositionTrees.{AreTrains}
 use Rattle.price_bound.specs.Costs.{AreCosts}
+use Rattle.price_bound.specs.Credits.{HaveSumRoom}
 use Rattle.price_bound.specs.DayMeanings.{IsWorkedOn}
-use Rattle.price_bound.specs.PriceTables.{AreSized, HasSize}
+use Rattle.price_bound.specs.PriceTables.{AreSized}
 
 -- the room has the sizes of a day, and its costs under changes
 pub record IsRoomFor (day : Day) (changes : List Change) (room : Workspace) : Type 0 where
   pub costs : AreCosts day changes room.costs
   pub tables : AreSized day room.tables
-  pub credits : HasSize (length day.trips) (suc (length (compositions_of day))) room.credits
-  pub debits : HasSize (length day.trips) (suc (length (compositions_of day))) room.debits
+  pub sums : HaveSumRoom day room.sums
   pub trains : AreTrains day room.trains
   pub rows : HaveRoom (length day.trips) (length (compositions_of day)) room.rows
   pub choice : length room.choice ≡ length day.trips

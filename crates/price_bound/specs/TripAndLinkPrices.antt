@@ -16,6 +16,7 @@ use Rattle.price_bound.specs.declared.turn_prices.TurnPrices.{TurnPrices}
 use Rattle.price_bound.specs.declared.turn_prices.TurnTrips.{TurnTrips}
 use Rattle.price_bound.specs.declared.priced_costs.PricedCosts.{PricedCosts}
 use Rattle.price_bound.specs.CellSizes.{IsSmall, most_cost}
+use Rattle.price_bound.specs.Credits.{is_whole}
 use Rattle.price_bound.specs.EdgeValues.{came, coupled}
 use Rattle.price_bound.specs.Pricing.{ArePriced}
 use Rattle.price_bound.specs.YardPrices.{giving, taking}
@@ -28,9 +29,9 @@ pub record IsForTrip (priced_costs : PricedCosts) : Type 0 where
   pub costs : priced_costs.costs.now ≡ get_or priced_costs.pricing.now.costs.now priced_costs.trip []
   pub weight : priced_costs.weight ≡ priced_costs.pricing.now.weight
   pub begins : priced_costs.begins ≡ is_none (incoming priced_costs.pricing.now.instance.now priced_costs.trip)
-  pub debits : priced_costs.debits.now ≡ get_or priced_costs.pricing.now.debits.now priced_costs.trip []
+  pub debits : priced_costs.debits.now ≡ get_or priced_costs.pricing.now.sums.now.debits priced_costs.trip []
   pub ends : priced_costs.ends ≡ is_none (outgoing priced_costs.pricing.now.instance.now priced_costs.trip)
-  pub credits : priced_costs.credits.now ≡ get_or priced_costs.pricing.now.credits.now priced_costs.trip []
+  pub credits : priced_costs.credits.now ≡ get_or priced_costs.pricing.now.sums.now.credits priced_costs.trip []
   pub seconds : priced_costs.seconds.now ≡ get_or priced_costs.pricing.now.tables.now.seconds priced_costs.trip []
 
 -- a link is a turn of these trips, which couples at this end
@@ -53,8 +54,10 @@ pub record IsForTurn (prices : TurnPrices) : Type 0 where
   pub small : IsSmall most_cost prices.shunting.0
   pub takes : prices.takes.now ≡ get_or prices.pricing.now.tables.now.takes prices.turn.departing []
   pub gives : prices.gives.now ≡ get_or prices.pricing.now.tables.now.gives prices.turn.arriving []
-  pub credits : prices.credits.now ≡ get_or prices.pricing.now.credits.now prices.turn.arriving []
-  pub debits : prices.debits.now ≡ get_or prices.pricing.now.debits.now prices.turn.departing []
+  pub credits : prices.credits.now ≡ get_or prices.pricing.now.sums.now.credits prices.turn.arriving []
+  pub has_credits : prices.has_credits ≡ is_whole prices.pricing.now.sums.now.kept.items prices.turn.arriving
+  pub debits : prices.debits.now ≡ get_or prices.pricing.now.sums.now.debits prices.turn.departing []
+  pub has_debits : prices.has_debits ≡ is_whole prices.pricing.now.sums.now.kept.items prices.turn.departing
 
 -- the price of the units that come with an edge of a turn, where they are taken, less their price where they would be
 -- given

@@ -2,17 +2,19 @@
 //! the first trip on.
 
 ghost use Rattle.std.specs.Prelude.{◌≡◌, ◌<◌, ◌≤◌, ◌+◌, ◌*◌, [], length, get_or, map, set, take, All, IfOk, Some, None};
-ghost use Rattle.std.specs.Prelude.{IfSome, false, is_none};
+ghost use Rattle.std.specs.Prelude.{IfSome, false, is_none, true};
 ghost use Rattle.timetable.specs.Compositions.{compositions_of};
 ghost use Rattle.timetable.specs.Chains.{Leads};
 ghost use Rattle.timetable.specs.Links.{outgoing};
 ghost use Rattle.timetable.specs.Running.{EachFollows};
+ghost use Rattle.timetable.specs.Within.{IsLinkAt};
 ghost use Rattle.price_bound.specs.CellRows.{AreSmallBelow, HaveRoom, HaveRoomFor, LeadsTo, MayRunOn, offered_from};
 ghost use Rattle.price_bound.specs.CellRows.{all_bare, chain_rows};
 ghost use Rattle.price_bound.specs.PassRooms.{IsPassRoom, IsPlain};
 ghost use Rattle.price_bound.specs.CellRows.{comps_of, last_row_on, put_along, row_on};
 ghost use Rattle.price_bound.specs.CellSizes.{AreSmallCells, IsSmallStep, most_ahead};
 ghost use Rattle.price_bound.specs.CellSizes.{most_step};
+ghost use Rattle.price_bound.specs.Credits.{is_whole};
 ghost use Rattle.price_bound.specs.Paths.{begin_of, next_of, path_from};
 ghost use Rattle.price_bound.specs.Pricing.{ArePriced, priced_by};
 
@@ -25,16 +27,12 @@ use crate::priced::Pricing;
 use crate::priced_costs::PricedCosts;
 use crate::row_values::EndValues;
 use crate::turn_prices::{TurnPrices, TurnTrips};
-use branch_tree::sets::WORD_BITS;
 use rail_base::limits::{MAX_COMPOSITIONS, MAX_LINKS, MAX_TRIPS};
 use rail_base::{CompNo, LinkNo, NoMemory, TripNo};
 use std::alloc::Global;
 use std::marker::Model;
 use timetable::{Instance, Link, Picks};
 use transitions::{Edge, may_exchange};
-
-/// A region has few compositions for a trip where so many times as many are fewer than there are.
-const FEW: u64 = 8;
 
 /// Room for the rows of any chain of a day. A contract sees a list of cells for each row.
 #[derive(Drop)]
@@ -347,14 +345,14 @@ fn fill_by_link(
     ensures row { row.new ≡ all_bare (row_on (priced_by pricing.now) trip ahead.now) }
     ensures small { IsSmallStep most_step ahead.now row.new }
 {
-    let is_narrow = is_narrow(pricing, trip);
-    if is_narrow {
-        fill_by_prices(pricing, trip, link, is_narrow, row, ahead);
+    let has_many = pricing.sums.has_many(trip);
+    if !has_many {
+        fill_by_prices(pricing, trip, link, true, row, ahead);
         return;
     }
     let link_at = pricing.instance.link(link);
-    let Some(turn) = plain_turn(link_at) else {
-        fill_by_prices(pricing, trip, link, is_narrow, row, ahead);
+    let Some(turn) = passed_turn(pricing, link_at) else {
+        fill_by_prices(pricing, trip, link, false, row, ahead);
         return;
     };
     let priced_costs = PricedCosts::new(&*pricing, trip);
@@ -362,18 +360,19 @@ fn fill_by_link(
     fill_by_passes(&passes, &priced_costs, row, ahead, pass_room);
 }
 
-/// Whether the region has few compositions for a trip, so that their edges are gone through sooner.
-fn is_narrow(pricing: &Pricing<'_>, trip: TripNo) -> bool
+/// The turn of a link, if it is one without exchange, and the departing trip has the prices of all compositions.
+fn passed_turn(pricing: &Pricing<'_>, link: &Link) -> Option<PlainTurn>
     requires priced { ArePriced pricing.now }
-    requires trip { trip < length pricing.now.instance.now.trips }
+    requires link { IsLinkAt pricing.now.instance.now link.now }
+    ensures plain { IfSome result (IsPlain link.now) }
+    ensures whole { IfSome result (λ turn. is_whole pricing.now.sums.now.kept.items turn.departing ≡ true) }
 {
-    let words = pricing.region.set(trip).words();
-    let used = pricing.instance.catalogue().len() as usize / WORD_BITS + 1;
-    let mut members: u64 = 0;
-    for place in 0..words.len().min(used) {
-        members = members.saturating_add(u64::from(words[place].count_ones()));
+    let turn = plain_turn(link)?;
+    if pricing.sums.is_whole(turn.departing) {
+        Some(turn)
+    } else {
+        None
     }
-    members.saturating_mul(FEW) < u64::from(pricing.instance.catalogue().len())
 }
 
 /// The turn of a link, if it is one without exchange.

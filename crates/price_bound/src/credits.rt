@@ -1,25 +1,35 @@
 //! Credits and debits: for each trip and composition the price of the composition's units, where the trip gives them,
 //! and where it takes them.
 //!
-//! They are made once for each list of multipliers, so that no edge sums up the units of whole trains. A composition is
+//! They are made once for each list of multipliers, so that few edges sum up the units of whole trains: for all
+//! compositions of a trip where these are asked for, and else for the members of the trip's set. A composition is
 //! one without the unit at its rear, which has a lower number or no units, and that unit: so each sum takes one step. A
 //! row has one place more than there are compositions, for no units.
 
-ghost use Rattle.std.specs.Prelude.{◌≡◌, ◌<◌, suc, length};
+ghost use Rattle.std.specs.Prelude.{◌≡◌, ◌<◌, ◌+◌, ◌*◌, [], get_or, suc, length, true, IfOk, IsTrue};
 ghost use Rattle.rules.specs.declared.records.End.TheVariants as at;
 ghost use Rattle.timetable.specs.Compositions.{compositions_of, composition_at};
+ghost use Rattle.branch_tree.specs.Sets.{is_member};
+ghost use Rattle.price_bound.specs.declared.credits.UnitSums.{UnitSums};
 ghost use Rattle.price_bound.specs.CellSizes.{IsSmall, most_units_price};
 ghost use Rattle.price_bound.specs.CompositionTrees.{AreEach, AreTrains, IsLast, IsRest};
-ghost use Rattle.price_bound.specs.Credits.{AreAllByType, AreAllSums, AreByType, AreSumsBefore, AreSumsOf, sum_in};
-ghost use Rattle.price_bound.specs.PriceTables.{HasSize};
+ghost use Rattle.price_bound.specs.Credits.{AreAllByType, AreByType, AreMembersPut, AreSumsBefore, AreSumsOf, AreSumsPut};
+ghost use Rattle.price_bound.specs.Credits.{AreTripSums, HaveSumRoom, IsTripPut, is_whole, sum_in};
 
 use crate::amounts::AmountTable;
 use crate::passes::{place_at, value_at};
 use crate::price_tables::PriceTables;
-use crate::priced_costs::{Amount, amount_of, plus};
+use crate::priced_costs::{Amount, amount_of, plus, sum_in, types_of};
 use crate::trains::Trains;
-use rail_base::TypeNo;
+use branch_tree::sets::{WORD_BITS, WORDS};
+use branch_tree::{CompositionSet, Region};
+use rail_base::limits::MAX_COMPOSITIONS;
+use rail_base::{CompNo, NoMemory, TripNo, TypeNo};
+use std::alloc::Global;
 use timetable::Instance;
+
+/// A region has few compositions for a trip where so many times as many are fewer than there are.
+const FEW: u32 = 8;
 
 /// What a unit of each type costs, where a trip gives it and where the trip takes it.
 #[derive(Drop)]
@@ -30,29 +40,251 @@ pub(crate) struct UnitPrices<'a> {
     pub takes: &'a [i64],
 }
 
-/// Puts the credits and the debits of each trip and composition: the sums of what the trip gives and takes units of the
-/// composition's types for. It takes no memory.
+/// The prices of compositions' units.
+#[derive(Drop)]
+pub(crate) struct UnitSums {
+    /// For each trip and composition the price of the composition's units, where the trip gives them, and one for no
+    /// units.
+    pub credits: AmountTable,
+    /// For each trip and composition the price of the composition's units, where the trip takes them, and one for no
+    /// units.
+    pub debits: AmountTable,
+    /// For which compositions each trip has them.
+    pub kept: Vec<Kept>,
+}
+
+/// For which compositions a trip has the prices of units.
+#[derive(Clone, Copy)]
+pub(crate) enum Kept {
+    /// For the members of the trip's set, which are few.
+    Members,
+    /// For all, since a link leads to the trip from one for which the region has many compositions.
+    Whole,
+    /// For all, since the region has many compositions for the trip.
+    Many,
+}
+
+impl UnitSums {
+    /// Room for each trip and composition of a day. The error is want of memory.
+    pub(crate) fn new(alloc: Global, instance: &Instance) -> Result<UnitSums, NoMemory>
+        ensures { IfOk result (HaveSumRoom instance.now) }
+    {
+        let trips = instance.trips() as usize;
+        let comps = instance.catalogue().len() as usize;
+        let credits = AmountTable::new(alloc, trips, comps + 1)?;
+        let debits = AmountTable::new(alloc, trips, comps + 1)?;
+        let kept = vec![in alloc; Kept::Members; trips]?;
+        Ok(UnitSums {
+            credits,
+            debits,
+            kept,
+        })
+    }
+
+    /// Whether a trip has the prices of all compositions.
+    pub(crate) fn is_whole(&self, trip: TripNo) -> bool
+        requires { trip < length self.now.kept.items }
+        ensures { result ≡ is_whole self.now.kept.items trip }
+    {
+        match self.kept[trip.place()] {
+            Kept::Members => false,
+            Kept::Whole => true,
+            Kept::Many => true,
+        }
+    }
+
+    /// Whether the region has many compositions for a trip. Then the trip has the prices of all.
+    pub(crate) fn has_many(&self, trip: TripNo) -> bool
+        requires { trip < length self.now.kept.items }
+        ensures { IsTrue result → is_whole self.now.kept.items trip ≡ true }
+    {
+        match self.kept[trip.place()] {
+            Kept::Members => false,
+            Kept::Whole => false,
+            Kept::Many => true,
+        }
+    }
+
+    /// Puts the sums that are asked for at a trip: of all compositions, or of the members of the trip's set.
+    fn put_trip(
+        &mut self,
+        instance: &Instance,
+        trains: &Trains,
+        tables: &PriceTables,
+        region: &Region,
+        trip: TripNo,
+    )
+        requires trains { AreTrains instance.now trains.now }
+        requires gives { AreAllByType instance.now tables.now.gives }
+        requires takes { AreAllByType instance.now tables.now.takes }
+        requires region { length region.now ≡ length instance.now.trips }
+        requires trip { trip < length instance.now.trips }
+        requires room { HaveSumRoom instance.now self.old }
+        ensures { IsTripPut instance.now region.now (get_or tables.now.gives trip []) (get_or tables.now.takes trip []) trip
+            self.old self.new }
+    {
+        let row = trip.place();
+        let prices = UnitPrices {
+            gives: tables.gives.row(row).items(),
+            takes: tables.takes.row(row).items(),
+        };
+        let kept = asked_for(instance, region, trip);
+        self.kept[row] = kept;
+        match kept {
+            Kept::Members => self.put_members(instance, region.set(trip), trip, &prices),
+            Kept::Whole => self.put_all(instance, trains, trip, &prices),
+            Kept::Many => self.put_all(instance, trains, trip, &prices),
+        }
+    }
+
+    /// Puts the sums of a trip for all compositions.
+    fn put_all(
+        &mut self,
+        instance: &Instance,
+        trains: &Trains,
+        trip: TripNo,
+        prices: &UnitPrices<'_>,
+    )
+        requires trains { AreTrains instance.now trains.now }
+        requires gives { AreByType instance.now prices.now.gives.now }
+        requires takes { AreByType instance.now prices.now.takes.now }
+        requires trip { trip < length instance.now.trips }
+        requires room { HaveSumRoom instance.now self.old }
+        ensures { AreMembersPut instance.now prices.now.gives.now prices.now.takes.now trip (λ comp. true)
+            (length (compositions_of instance.now)) self.old self.new }
+    {
+        self.credits
+            .put_sums(&mut self.debits, trip.place(), instance, trains, prices);
+    }
+
+    /// Puts the sums of a trip for the members of a set.
+    fn put_members(
+        &mut self,
+        instance: &Instance,
+        set: &CompositionSet,
+        trip: TripNo,
+        prices: &UnitPrices<'_>,
+    )
+        requires gives { AreByType instance.now prices.now.gives.now }
+        requires takes { AreByType instance.now prices.now.takes.now }
+        requires trip { trip < length instance.now.trips }
+        requires room { HaveSumRoom instance.now self.old }
+        ensures { AreMembersPut instance.now prices.now.gives.now prices.now.takes.now trip (is_member set.now)
+            (length (compositions_of instance.now)) self.old self.new }
+    {
+        prove!(instance.catalogue().len() as usize <= MAX_COMPOSITIONS);
+        let used = WORDS.min(instance.catalogue().len() as usize / WORD_BITS + 1);
+        for place in 0..used {
+            self.put_word(instance, set, place, trip, prices);
+        }
+    }
+
+    /// Puts the sums of a trip for the members of a set that a word of it tells of.
+    fn put_word(
+        &mut self,
+        instance: &Instance,
+        set: &CompositionSet,
+        place: usize,
+        trip: TripNo,
+        prices: &UnitPrices<'_>,
+    )
+        requires gives { AreByType instance.now prices.now.gives.now }
+        requires takes { AreByType instance.now prices.now.takes.now }
+        requires place { place < WORDS }
+        requires trip { trip < length instance.now.trips }
+        requires room { HaveSumRoom instance.now self.old }
+        ensures { (sums : UnitSums) → AreMembersPut instance.now prices.now.gives.now prices.now.takes.now trip
+            (is_member set.now) (place * WORD_BITS) sums self.old
+            → AreMembersPut instance.now prices.now.gives.now prices.now.takes.now trip (is_member set.now)
+            (place * WORD_BITS + WORD_BITS) sums self.new }
+    {
+        prove!(instance.catalogue().len() as usize <= MAX_COMPOSITIONS);
+        let word = set.words()[place];
+        let begin = (place * WORD_BITS) as u32;
+        let end = (begin + WORD_BITS as u32).min(instance.catalogue().len());
+        let mut left = word;
+        for comp in begin..end {
+            if left == 0 {
+                return;
+            }
+            if left % 2 == 1 {
+                self.put_comp(instance, trip, CompNo(comp), prices);
+            }
+            left /= 2;
+        }
+    }
+
+    /// Puts the sums of a trip for a composition.
+    fn put_comp(&mut self, instance: &Instance, trip: TripNo, comp: CompNo, prices: &UnitPrices<'_>)
+        requires gives { AreByType instance.now prices.now.gives.now }
+        requires takes { AreByType instance.now prices.now.takes.now }
+        requires comp { comp < length (compositions_of instance.now) }
+        ensures { AreSumsPut instance.now prices.now.gives.now prices.now.takes.now trip comp self.old self.new }
+    {
+        let types = types_of(instance, comp);
+        let credit = sum_in(prices.gives, types);
+        let debit = sum_in(prices.takes, types);
+        self.credits.put(trip.place(), comp.place(), credit.0);
+        self.debits.put(trip.place(), comp.place(), debit.0);
+    }
+}
+
+/// For which compositions the sums of a trip are asked for.
+fn asked_for(instance: &Instance, region: &Region, trip: TripNo) -> Kept
+    requires region { length region.now ≡ length instance.now.trips }
+    requires trip { trip < length instance.now.trips }
+{
+    let comps = instance.catalogue().len();
+    if has_many(region.set(trip), comps) {
+        return Kept::Many;
+    }
+    let Some(link) = instance.incoming(trip) else {
+        return Kept::Members;
+    };
+    let before = instance.link(link).kind.leads_from();
+    if has_many(region.set(before), comps) {
+        return Kept::Whole;
+    }
+    Kept::Members
+}
+
+/// Whether a set has many of so many compositions. That it has so many of the first ones is seen at once.
+fn has_many(set: &CompositionSet, comps: u32) -> bool {
+    let words = set.words();
+    let many = comps / FEW + 1;
+    if words[0].trailing_ones() >= many {
+        return true;
+    }
+    let used = words.len().min(comps as usize / WORD_BITS + 1);
+    let mut left = many;
+    for place in 0..used {
+        let ones = words[place].count_ones();
+        if left <= ones {
+            return true;
+        }
+        left -= ones;
+    }
+    false
+}
+
+/// Puts the credits and the debits of each trip: the sums of what the trip gives and takes units of a composition's types
+/// for, of those compositions for which they are asked in a region. It takes no memory.
 pub(crate) fn fill_sums(
     instance: &Instance,
     trains: &Trains,
     tables: &PriceTables,
-    credits: &mut AmountTable,
-    debits: &mut AmountTable,
+    region: &Region,
+    sums: &mut UnitSums,
 )
     requires trains { AreTrains instance.now trains.now }
     requires gives { AreAllByType instance.now tables.now.gives }
     requires takes { AreAllByType instance.now tables.now.takes }
-    requires credits { HasSize (length instance.now.trips) (suc (length (compositions_of instance.now))) credits.old }
-    requires debits { HasSize (length instance.now.trips) (suc (length (compositions_of instance.now))) debits.old }
-    ensures credits { AreAllSums instance.now tables.now.gives credits.new }
-    ensures debits { AreAllSums instance.now tables.now.takes debits.new }
+    requires region { length region.now ≡ length instance.now.trips }
+    requires room { HaveSumRoom instance.now sums.old }
+    ensures { AreTripSums instance.now region.now tables.now.gives tables.now.takes (length instance.now.trips) sums.new }
 {
-    for trip in 0..instance.trips() as usize {
-        let prices = UnitPrices {
-            gives: tables.gives.row(trip).items(),
-            takes: tables.takes.row(trip).items(),
-        };
-        credits.put_sums(debits, trip, instance, trains, &prices);
+    for trip in 0..instance.trips() {
+        sums.put_trip(instance, trains, tables, region, TripNo(trip));
     }
 }
 

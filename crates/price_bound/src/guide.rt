@@ -59,8 +59,8 @@ pub(crate) fn put_prices(room: &mut Workspace, asked: &Asked<'_>, guide: &mut Pr
         asked.instance,
         &room.trains,
         &room.tables,
-        &mut room.credits,
-        &mut room.debits,
+        asked.region,
+        &mut room.sums,
     );
     let pricing = Pricing {
         instance: asked.instance,
@@ -71,8 +71,7 @@ pub(crate) fn put_prices(room: &mut Workspace, asked: &Asked<'_>, guide: &mut Pr
         region: asked.region,
         costs: &room.costs,
         tables: &room.tables,
-        credits: &room.credits,
-        debits: &room.debits,
+        sums: &room.sums,
         trains: &room.trains,
     };
     put_all(&pricing, &mut room.rows, guide);

@@ -13,6 +13,7 @@ ghost use Rattle.price_bound.specs.CellSizes.{AreSmallCells, IsSmall, IsSmallSte
 ghost use Rattle.price_bound.specs.CellSizes.{most_edge_price, most_step, most_units_price};
 ghost use Rattle.price_bound.specs.ChainStages.{priced_cost_of};
 ghost use Rattle.price_bound.specs.CompositionTrees.{place_at};
+ghost use Rattle.price_bound.specs.Credits.{is_whole};
 ghost use Rattle.price_bound.specs.HeldValues.{no_value};
 ghost use Rattle.price_bound.specs.LeastOverTrees.{lower};
 ghost use Rattle.price_bound.specs.PassRooms.{IsPassRoom};
@@ -167,6 +168,8 @@ impl<'a> Passes<'a> {
             turn.uncouple turn.couple }
         requires arriving { turn.arriving < length pricing.now.instance.now.trips }
         requires departing { turn.departing < length pricing.now.instance.now.trips }
+        requires credits { is_whole pricing.now.sums.now.kept.items turn.arriving ≡ true }
+        requires debits { is_whole pricing.now.sums.now.kept.items turn.departing ≡ true }
         ensures pricing { result.pricing.now ≡ pricing.now }
         ensures link { result.link ≡ link }
         ensures turn { result.turn ≡ turn }
@@ -180,8 +183,8 @@ impl<'a> Passes<'a> {
             longer: pricing.trains.rests(turn.couple),
             turned: pricing.trains.places(turn.reverse),
             shunting: weighted(pricing.weight, shunting_cost(pricing.instance)),
-            credits: pricing.credits.row(turn.arriving.place()).items(),
-            debits: pricing.debits.row(turn.departing.place()).items(),
+            credits: pricing.sums.credits.row(turn.arriving.place()).items(),
+            debits: pricing.sums.debits.row(turn.departing.place()).items(),
         }
     }
 

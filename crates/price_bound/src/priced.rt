@@ -2,6 +2,7 @@
 
 use crate::amounts::AmountTable;
 use crate::changes::Change;
+use crate::credits::UnitSums;
 use crate::price_tables::PriceTables;
 use crate::trains::Trains;
 use branch_tree::{Multipliers, Region, Weight};
@@ -28,10 +29,8 @@ pub(crate) struct Pricing<'a> {
     pub costs: &'a AmountTable,
     /// The prices under the multipliers, by trip, link and yard.
     pub tables: &'a PriceTables,
-    /// The price of each composition's units, where a trip gives them.
-    pub credits: &'a AmountTable,
-    /// The price of each composition's units, where a trip takes them.
-    pub debits: &'a AmountTable,
+    /// The prices of compositions' units, where trips give and take them.
+    pub sums: &'a UnitSums,
     /// How the compositions are made of one another.
     pub trains: &'a Trains,
 }

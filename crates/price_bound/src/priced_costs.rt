@@ -71,9 +71,9 @@ impl<'a> PricedCosts<'a> {
             costs: pricing.costs.row(row).items(),
             weight: pricing.weight,
             begins: pricing.instance.incoming(trip).is_none(),
-            debits: pricing.debits.row(row).items(),
+            debits: pricing.sums.debits.row(row).items(),
             ends: pricing.instance.outgoing(trip).is_none(),
-            credits: pricing.credits.row(row).items(),
+            credits: pricing.sums.credits.row(row).items(),
             seconds: pricing.tables.seconds.row(row).items(),
         }
     }
@@ -124,6 +124,7 @@ impl<'a> PricedCosts<'a> {
     fn trip_value(&self, comp: CompNo, cost: Amount) -> Amount
         requires is { IsForTrip self.now }
         requires comp { comp < length (compositions_of self.now.pricing.now.instance.now) }
+        requires member { is_had self.now comp ≡ true }
         requires cost { cost.0 ≡ weighted self.now.pricing.now.weight
             (pos (cost_on (priced_by self.now.pricing.now) self.now.trip comp)) }
         requires few { IsSmall most_cost cost.0 }
@@ -145,6 +146,7 @@ impl<'a> PricedCosts<'a> {
     fn taken_at_begin(&self, comp: CompNo) -> Amount
         requires is { IsForTrip self.now }
         requires comp { comp < length (compositions_of self.now.pricing.now.instance.now) }
+        requires member { is_had self.now comp ≡ true }
         ensures value { result.0 ≡ (if is_none (incoming self.now.pricing.now.instance.now self.now.trip)
             then taking self.now.pricing.now.instance.now self.now.pricing.now.multipliers.now self.now.trip
             (composition_at self.now.pricing.now.instance.now comp)
@@ -161,6 +163,7 @@ impl<'a> PricedCosts<'a> {
     fn given_at_end(&self, comp: CompNo) -> Amount
         requires is { IsForTrip self.now }
         requires comp { comp < length (compositions_of self.now.pricing.now.instance.now) }
+        requires member { is_had self.now comp ≡ true }
         ensures value { result.0 ≡ (if is_none (outgoing self.now.pricing.now.instance.now self.now.trip)
             then giving self.now.pricing.now.instance.now self.now.pricing.now.multipliers.now self.now.trip
             (composition_at self.now.pricing.now.instance.now comp)

@@ -46,10 +46,14 @@ pub(crate) struct TurnPrices<'a> {
     pub takes: &'a [i64],
     /// The price of a unit of each type that the arriving trip gives.
     pub gives: &'a [i64],
-    /// The price of each composition's units, where the arriving trip gives them.
+    /// The price of each composition's units, where the arriving trip gives them, if it has been put for all.
     pub credits: &'a [i64],
-    /// The price of each composition's units, where the departing trip takes them.
+    /// Whether it has.
+    pub has_credits: bool,
+    /// The price of each composition's units, where the departing trip takes them, if it has been put for all.
     pub debits: &'a [i64],
+    /// Whether it has.
+    pub has_debits: bool,
 }
 
 impl<'a> TurnPrices<'a> {
@@ -71,8 +75,10 @@ impl<'a> TurnPrices<'a> {
             shunting: weighted(pricing.weight, shunting_cost(pricing.instance)),
             takes: pricing.tables.takes.row(departing).items(),
             gives: pricing.tables.gives.row(arriving).items(),
-            credits: pricing.credits.row(arriving).items(),
-            debits: pricing.debits.row(departing).items(),
+            credits: pricing.sums.credits.row(arriving).items(),
+            has_credits: pricing.sums.is_whole(turn.arriving),
+            debits: pricing.sums.debits.row(departing).items(),
+            has_debits: pricing.sums.is_whole(turn.departing),
         }
     }
 
@@ -100,7 +106,10 @@ impl<'a> TurnPrices<'a> {
             (composition_at self.now.pricing.now.instance.now comp) }
         ensures small { IsSmall most_units_price result.0 }
     {
-        amount_for(self.credits, comp)
+        if self.has_credits {
+            return amount_for(self.credits, comp);
+        }
+        sum_in(self.gives, types_of(self.pricing.instance, comp))
     }
 
     /// The price of a composition's units, where the departing trip takes them.
@@ -112,7 +121,10 @@ impl<'a> TurnPrices<'a> {
             (composition_at self.now.pricing.now.instance.now comp) }
         ensures small { IsSmall most_units_price result.0 }
     {
-        amount_for(self.debits, comp)
+        if self.has_debits {
+            return amount_for(self.debits, comp);
+        }
+        sum_in(self.takes, types_of(self.pricing.instance, comp))
     }
 
     /// The price of the units that come with an edge, where the departing trip takes them, less their price where the

@@ -17,7 +17,7 @@ use crate::cells::Cell;
 use crate::chain_rows::ChainRows;
 use crate::changes::Change;
 use crate::costs::fill_costs;
-use crate::credits::fill_sums;
+use crate::credits::{UnitSums, fill_sums};
 use crate::price_tables::PriceTables;
 use crate::priced::Pricing;
 use crate::priced_costs::added;
@@ -36,12 +36,8 @@ pub(crate) struct Workspace {
     pub costs: AmountTable,
     /// The prices under the multipliers of a bound.
     pub tables: PriceTables,
-    /// For each trip and composition the price of the composition's units, where the trip gives them, and one for no
-    /// units.
-    pub credits: AmountTable,
-    /// For each trip and composition the price of the composition's units, where the trip takes them, and one for no
-    /// units.
-    pub debits: AmountTable,
+    /// The prices of compositions' units, where trips give and take them.
+    pub sums: UnitSums,
     /// How the compositions are made of one another.
     pub trains: Trains,
     /// The cells of one chain.
@@ -64,16 +60,14 @@ impl Workspace {
         let comps = instance.catalogue().len() as usize;
         let mut costs = AmountTable::new(alloc, trips, comps)?;
         fill_costs(instance, changes, &mut costs);
-        let credits = AmountTable::new(alloc, trips, comps + 1)?;
-        let debits = AmountTable::new(alloc, trips, comps + 1)?;
+        let sums = UnitSums::new(alloc, instance)?;
         let trains = Trains::of(alloc, instance)?;
         let rows = ChainRows::new(alloc, instance)?;
         let tables = PriceTables::new(alloc, instance)?;
         Ok(Workspace {
             costs,
             tables,
-            credits,
-            debits,
+            sums,
             trains,
             rows,
             choice,
@@ -110,13 +104,7 @@ impl Workspace {
         prove!(instance.chains() as usize <= MAX_TRIPS);
         prove!(instance.links() as usize <= MAX_LINKS);
         let constant = self.tables.fill(instance, multipliers);
-        fill_sums(
-            instance,
-            &self.trains,
-            &self.tables,
-            &mut self.credits,
-            &mut self.debits,
-        );
+        fill_sums(instance, &self.trains, &self.tables, region, &mut self.sums);
         let pricing = Pricing {
             instance,
             graphs,
@@ -126,8 +114,7 @@ impl Workspace {
             region,
             costs: &self.costs,
             tables: &self.tables,
-            credits: &self.credits,
-            debits: &self.debits,
+            sums: &self.sums,
             trains: &self.trains,
         };
         match first_paths(&pricing, &mut self.rows, &mut self.choice) {

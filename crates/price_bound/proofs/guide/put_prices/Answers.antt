@@ -1,5 +1,5 @@
 -- The tables hold the costs and the prices.
-use Rattle.price_bound.proofs.Crediting.{credits_are, debits_are, gives_by_type, takes_by_type}
+use Rattle.price_bound.proofs.Crediting.{gives_by_type, sums_priced, takes_by_type}
 use Rattle.price_bound.proofs.guide.put_prices.Goals as goal
 
 pub fill_sums-requires-clause-gives : goal.fill_sums-requires-clause-gives
@@ -16,8 +16,8 @@ put_all-requires-clause-priced c = record {
   multipliers_are = c.entries.ensures.multipliers;
   costs = c.requires.room.costs;
   prices = c.fill.ensures.prices;
-  credits = credits_are c.args.asked.now.instance.now c.args.asked.now.multipliers.now c.fill.new.self c.fill_sums.new.credits c.fill.ensures.prices c.fill_sums.ensures.credits;
-  debits = debits_are c.args.asked.now.instance.now c.args.asked.now.multipliers.now c.fill.new.self c.fill_sums.new.debits c.fill.ensures.prices c.fill_sums.ensures.debits;
+  sums = sums_priced c.args.asked.now.instance.now c.args.asked.now.region.now c.args.asked.now.multipliers.now c.fill.new.self c.fill_sums.new.sums
+      c.fill.ensures.prices c.fill_sums.ensures;
   trains = c.requires.room.trains;
   over = c.requires.region;
 }

@@ -17,8 +17,8 @@ returns-clause-is c = record {
   costs = c.items.ensures ∙ (c.row.ensures ∙ ap (λ (r : ℕ). get_or c.args.pricing.now.costs.now r []) c.place-row.ensures.number);
   weight = refl;
   begins = none_is c.incoming.result c.is_none.result c.is_none.ensures ∙ ap is_none c.incoming.ensures.value;
-  debits = c.items-2.ensures ∙ (c.row-2.ensures ∙ ap (λ (r : ℕ). get_or c.args.pricing.now.debits.now r []) c.place-row.ensures.number);
+  debits = c.items-2.ensures ∙ (c.row-2.ensures ∙ ap (λ (r : ℕ). get_or c.args.pricing.now.sums.now.debits r []) c.place-row.ensures.number);
   ends = none_is c.outgoing.result c.is_none-2.result c.is_none-2.ensures ∙ ap is_none c.outgoing.ensures.value;
-  credits = c.items-3.ensures ∙ (c.row-3.ensures ∙ ap (λ (r : ℕ). get_or c.args.pricing.now.credits.now r []) c.place-row.ensures.number);
+  credits = c.items-3.ensures ∙ (c.row-3.ensures ∙ ap (λ (r : ℕ). get_or c.args.pricing.now.sums.now.credits r []) c.place-row.ensures.number);
   seconds = c.items-4.ensures ∙ (c.row-4.ensures ∙ ap (λ (r : ℕ). get_or c.args.pricing.now.tables.now.seconds r []) c.place-row.ensures.number);
 }

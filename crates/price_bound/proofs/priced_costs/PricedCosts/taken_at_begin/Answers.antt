@@ -1,7 +1,7 @@
--- The row of the trip has the prices.
-use Rattle.std.proofs.Common.{◌≡◌, ℕ, Bool, List, ℤ, true, arith, pos, ap, sym, subst, ◌∙◌}
+-- The row of the trip has the prices of the members of its set.
+use Rattle.std.proofs.Common.{◌≡◌, ℕ, Bool, suc, List, length, ℤ, true, arith, pos, ap, sym, subst, ◌∙◌}
 use Rattle.std.specs.Prelude.{if◌then◌else◌, is_none}
-use Rattle.timetable.specs.Compositions.{composition_at}
+use Rattle.timetable.specs.Compositions.{compositions_of, composition_at}
 use Rattle.timetable.specs.Day.{Day}
 use Rattle.timetable.specs.Links.{incoming}
 use Rattle.branch_tree.specs.declared.multipliers.Entry.{Entry}
@@ -13,12 +13,11 @@ use Rattle.price_bound.proofs.priced_costs.PricedCosts.taken_at_begin.Goals as g
 pub amount_for-requires : goal.amount_for-requires
 amount_for-requires c =
     let day : Day = c.args.self.now.pricing.now.instance.now in
-    let price : ℕ → List ℕ → ℤ = taking day c.args.self.now.pricing.now.multipliers.now in
     omega (
       arith,
       c.requires.comp,
-      unit_prices_long day price c.args.self.now.pricing.now.debits.now c.requires.is.priced.debits c.args.self.now.trip
-          c.requires.is.known c.args.self.now.debits.now c.requires.is.debits,
+      unit_prices_long (length day.trips) (suc (length (compositions_of day))) c.args.self.now.pricing.now.sums.now.debits
+          c.requires.is.priced.sums.debits.sized c.args.self.now.trip c.requires.is.known c.args.self.now.debits.now c.requires.is.debits,
     )
 
 pub returns-clause-value : goal.returns-clause-value
@@ -26,16 +25,18 @@ returns-clause-value c =
     let day : Day = c.args.self.now.pricing.now.instance.now in
     let entries : List Entry = c.args.self.now.pricing.now.multipliers.now in
     let trip : ℕ = c.args.self.now.trip in
-    let begins : is_none (incoming day trip) ≡ true = sym c.requires.is.begins ∙ c.if-not-self.false in
+    let is : is_none (incoming day trip) ≡ true = sym c.requires.is.begins ∙ c.if-not-self.false in
     c.amount_for.ensures
-    ∙ (unit_price_at day (taking day entries) c.args.self.now.pricing.now.debits.now c.requires.is.priced.debits trip
-    c.requires.is.known c.args.self.now.debits.now c.requires.is.debits c.args.comp c.requires.comp
-    ∙ sym (ap (λ (b : Bool). if b then taking day entries trip (composition_at day c.args.comp) else pos 0) begins))
+    ∙ (unit_price_at day (taking day entries) c.args.self.now.pricing.now.sums.now.debits trip c.args.comp
+    (c.requires.is.priced.sums.debits.members trip c.args.comp c.requires.is.known c.requires.comp c.requires.member)
+    c.args.self.now.debits.now c.requires.is.debits
+    ∙ sym (ap (λ (b : Bool). if b then taking day entries trip (composition_at day c.args.comp) else pos 0) is))
 
 pub returns-clause-small : goal.returns-clause-small
 returns-clause-small c =
     let day : Day = c.args.self.now.pricing.now.instance.now in
     let price : ℕ → List ℕ → ℤ = taking day c.args.self.now.pricing.now.multipliers.now in
     subst (IsSmall most_units_price) (sym c.amount_for.ensures)
-    (unit_price_small day price c.args.self.now.pricing.now.debits.now c.requires.is.priced.debits c.args.self.now.trip
-    c.requires.is.known c.args.self.now.debits.now c.requires.is.debits c.args.comp c.requires.comp)
+    (unit_price_small day price c.args.self.now.pricing.now.sums.now.debits c.args.self.now.trip c.args.comp
+    (c.requires.is.priced.sums.debits.members c.args.self.now.trip c.args.comp c.requires.is.known c.requires.comp c.requires.member)
+    c.args.self.now.debits.now c.requires.is.debits)

@@ -1,29 +1,17 @@
--- The row of the arriving trip has the credits.
-use Rattle.std.proofs.Common.{arith, sym, subst, ◌∙◌}
-use Rattle.price_bound.specs.CellSizes.{IsSmall, most_units_price}
+-- The row of the arriving trip has the credits, or they are summed by its prices of units.
+use Rattle.std.proofs.Common.{ap, ◌∙◌}
 use Rattle.price_bound.specs.YardPrices.{giving}
-use Rattle.price_bound.proofs.TripAndLinkPrices.{unit_price_at, unit_price_small, unit_prices_long}
+use Rattle.price_bound.proofs.TripAndLinkPrices.{given_at, gives_row_small}
 use Rattle.price_bound.proofs.turn_prices.TurnPrices.credit.Goals as goal
 
-pub amount_for-requires : goal.amount_for-requires
-amount_for-requires c = omega (
-  arith,
-  c.requires.comp,
-  unit_prices_long c.args.self.now.pricing.now.instance.now (giving c.args.self.now.pricing.now.instance.now c.args.self.now.pricing.now.multipliers.now)
-      c.args.self.now.pricing.now.credits.now c.requires.is.priced.credits c.args.self.now.turn.arriving c.requires.is.turn.arriving
-      c.args.self.now.credits.now c.requires.is.credits,
-)
+pub sum_in-requires-clause-small : goal.sum_in-requires-clause-small
+sum_in-requires-clause-small c =
+    gives_row_small c.args.self.now.pricing.now c.requires.is.priced c.args.self.now.turn.arriving c.requires.is.turn.arriving c.args.self.now.gives.now
+    c.requires.is.gives
 
 pub returns-clause-value : goal.returns-clause-value
 returns-clause-value c =
-    c.amount_for.ensures
-    ∙ unit_price_at c.args.self.now.pricing.now.instance.now (giving c.args.self.now.pricing.now.instance.now c.args.self.now.pricing.now.multipliers.now)
-    c.args.self.now.pricing.now.credits.now c.requires.is.priced.credits c.args.self.now.turn.arriving c.requires.is.turn.arriving
-    c.args.self.now.credits.now c.requires.is.credits c.args.comp c.requires.comp
-
-pub returns-clause-small : goal.returns-clause-small
-returns-clause-small c =
-    subst (IsSmall most_units_price) (sym c.amount_for.ensures)
-    (unit_price_small c.args.self.now.pricing.now.instance.now (giving c.args.self.now.pricing.now.instance.now c.args.self.now.pricing.now.multipliers.now)
-    c.args.self.now.pricing.now.credits.now c.requires.is.priced.credits c.args.self.now.turn.arriving c.requires.is.turn.arriving
-    c.args.self.now.credits.now c.requires.is.credits c.args.comp c.requires.comp)
+    c.sum_in.ensures.value
+    ∙ given_at c.args.self.now.pricing.now c.requires.is.priced c.args.self.now.turn.arriving c.requires.is.turn.arriving c.args.self.now.gives.now c.requires.is.gives
+    c.types_of.result.now c.types_of.ensures.known
+    ∙ ap (giving c.args.self.now.pricing.now.instance.now c.args.self.now.pricing.now.multipliers.now c.args.self.now.turn.arriving) c.types_of.ensures.value

@@ -1,29 +1,17 @@
--- The row of the departing trip has the debits.
-use Rattle.std.proofs.Common.{arith, sym, subst, ◌∙◌}
-use Rattle.price_bound.specs.CellSizes.{IsSmall, most_units_price}
+-- The row of the departing trip has the debits, or they are summed by its prices of units.
+use Rattle.std.proofs.Common.{ap, ◌∙◌}
 use Rattle.price_bound.specs.YardPrices.{taking}
-use Rattle.price_bound.proofs.TripAndLinkPrices.{unit_price_at, unit_price_small, unit_prices_long}
+use Rattle.price_bound.proofs.TripAndLinkPrices.{taken_at, takes_row_small}
 use Rattle.price_bound.proofs.turn_prices.TurnPrices.debit.Goals as goal
 
-pub amount_for-requires : goal.amount_for-requires
-amount_for-requires c = omega (
-  arith,
-  c.requires.comp,
-  unit_prices_long c.args.self.now.pricing.now.instance.now (taking c.args.self.now.pricing.now.instance.now c.args.self.now.pricing.now.multipliers.now)
-      c.args.self.now.pricing.now.debits.now c.requires.is.priced.debits c.args.self.now.turn.departing c.requires.is.turn.departing
-      c.args.self.now.debits.now c.requires.is.debits,
-)
+pub sum_in-requires-clause-small : goal.sum_in-requires-clause-small
+sum_in-requires-clause-small c =
+    takes_row_small c.args.self.now.pricing.now c.requires.is.priced c.args.self.now.turn.departing c.requires.is.turn.departing c.args.self.now.takes.now
+    c.requires.is.takes
 
 pub returns-clause-value : goal.returns-clause-value
 returns-clause-value c =
-    c.amount_for.ensures
-    ∙ unit_price_at c.args.self.now.pricing.now.instance.now (taking c.args.self.now.pricing.now.instance.now c.args.self.now.pricing.now.multipliers.now)
-    c.args.self.now.pricing.now.debits.now c.requires.is.priced.debits c.args.self.now.turn.departing c.requires.is.turn.departing
-    c.args.self.now.debits.now c.requires.is.debits c.args.comp c.requires.comp
-
-pub returns-clause-small : goal.returns-clause-small
-returns-clause-small c =
-    subst (IsSmall most_units_price) (sym c.amount_for.ensures)
-    (unit_price_small c.args.self.now.pricing.now.instance.now (taking c.args.self.now.pricing.now.instance.now c.args.self.now.pricing.now.multipliers.now)
-    c.args.self.now.pricing.now.debits.now c.requires.is.priced.debits c.args.self.now.turn.departing c.requires.is.turn.departing
-    c.args.self.now.debits.now c.requires.is.debits c.args.comp c.requires.comp)
+    c.sum_in.ensures.value
+    ∙ taken_at c.args.self.now.pricing.now c.requires.is.priced c.args.self.now.turn.departing c.requires.is.turn.departing c.args.self.now.takes.now c.requires.is.takes
+    c.types_of.result.now c.types_of.ensures.known
+    ∙ ap (taking c.args.self.now.pricing.now.instance.now c.args.self.now.pricing.now.multipliers.now c.args.self.now.turn.departing) c.types_of.ensures.value

@@ -5,7 +5,7 @@ use Rattle.price_bound.specs.ChainStages.{Priced}
 use Rattle.price_bound.specs.ChangedDays.{changed_day, changed_meanings}
 use Rattle.price_bound.specs.FirstPaths.{AreFound}
 use Rattle.price_bound.proofs.Bounding.{found_bound, none_bound}
-use Rattle.price_bound.proofs.Crediting.{credits_are, debits_are, gives_by_type, takes_by_type}
+use Rattle.price_bound.proofs.Crediting.{gives_by_type, sums_priced, takes_by_type}
 use Rattle.price_bound.proofs.DayPrices.{day_priced}
 use Rattle.price_bound.proofs.workspaces.Workspace.bound.Goals as goal
 
@@ -23,8 +23,8 @@ first_paths-requires-clause-priced c = record {
   multipliers_are = c.entries.ensures.multipliers;
   costs = c.requires.room.costs;
   prices = c.fill-constant.ensures.prices;
-  credits = credits_are c.args.instance.now c.args.multipliers.now c.fill-constant.new.self c.fill_sums.new.credits c.fill-constant.ensures.prices c.fill_sums.ensures.credits;
-  debits = debits_are c.args.instance.now c.args.multipliers.now c.fill-constant.new.self c.fill_sums.new.debits c.fill-constant.ensures.prices c.fill_sums.ensures.debits;
+  sums = sums_priced c.args.instance.now c.args.region.now c.args.multipliers.now c.fill-constant.new.self c.fill_sums.new.sums c.fill-constant.ensures.prices
+      c.fill_sums.ensures;
   trains = c.requires.room.trains;
   over = c.requires.region;
 }

@@ -1,5 +1,5 @@
 -- The tables are made with the sizes of the day.
-use Rattle.std.proofs.Common.{◌+◌, length, arith, ap, ◌∙◌}
+use Rattle.std.proofs.Common.{length, ap, ◌∙◌}
 use Rattle.std.proofs.lemmas.List.{length-replicate}
 use Rattle.price_bound.proofs.Adding.{zeros_sized}
 use Rattle.price_bound.proofs.workspaces.Workspace.new.Goals as goal
@@ -14,10 +14,7 @@ pub returns : goal.returns
 returns c = record {
   costs = c.fill_costs.ensures;
   tables = c.in_ok-tables.ensures;
-  credits = zeros_sized _ _ c.trips-trips.result (c.len-comps.result + 1) c.in_ok-credits.credits c.in_ok-credits.ensures
-      c.trips-trips.ensures.value (omega (arith, c.len-comps.ensures.value, ap length c.catalogue.ensures));
-  debits = zeros_sized _ _ c.trips-trips.result (c.len-comps.result + 1) c.in_ok-debits.debits c.in_ok-debits.ensures
-      c.trips-trips.ensures.value (omega (arith, c.len-comps.ensures.value, ap length c.catalogue.ensures));
+  sums = c.in_ok-sums.ensures;
   trains = c.in_ok-trains.ensures;
   rows = c.in_ok-rows.ensures;
   choice = ap length c.in_ok-choice.ensures ∙ length-replicate c.trips.result 0 ∙ c.trips.ensures.value;
