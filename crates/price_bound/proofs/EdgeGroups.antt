@@ -1,67 +1,94 @@
 -- The edges of a link by the composition that they lead from: where those of one begin, what they offer to it, and rows
 -- that are made of what each composition is offered.
 use Rattle.std.proofs.Common.{◌≡◌, ◌≢◌, ℕ, zero, suc, ◌+◌, ◌-◌, ◌<◌, ◌≤◌, List, [], ◌∷◌, length, get_or, set, take, replicate}
-use Rattle.std.proofs.Common.{Option, Some, None, ℤ, refl, sym, ap, ◌∙◌, subst, arith, inl, inr, slice_get, length-set, unwrap_or, ⊎_elim, pos}
+use Rattle.std.proofs.Common.{Option, Some, None, ℤ, refl, sym, ap, ◌∙◌, subst, arith, inl, inr, slice_get, length-set, unwrap_or, ◌⊎◌, pos}
 use Rattle.std.specs.Prelude.{Bool, fold, IfSome, option_map}
 use Rattle.std.proofs.lemmas.Bool.{cases_eq, cases_lt}
 use Rattle.std.proofs.lemmas.List.{ext_get_or, get_or_default, get_or-replicate, get_or-set_same, get_or-set_other}
 use Rattle.std.proofs.lemmas.List.{get_or_past, length-map, length-replicate, take_all}
 use Rattle.timetable.specs.Links.{outgoing}
 use Rattle.transitions.specs.declared.edge.Edge.{Edge}
-use Rattle.transitions.specs.Edges.{AreGraphs, AreInOrder}
+use Rattle.transitions.specs.Edges.{AreGraphs, AreInOrder, IsBefore}
 use Rattle.price_bound.specs.declared.cells.Cell.{Cell}
 use Rattle.price_bound.specs.declared.priced_costs.Amount.{Amount}
 use Rattle.price_bound.specs.CellRows.{all_bare, bare, comps_of, edges_offered, last_row_on, offered_from, row_on}
 use Rattle.price_bound.specs.CellSizes.{AreSmallCells, IsSmall, most_priced_cost}
 use Rattle.price_bound.specs.ChainStages.{Priced, edges_of, price_of, stage_of, priced_cost_of}
-use Rattle.price_bound.specs.EdgeGroups.{IsAtGroup, IsGroupPlace, IsInGroup}
+use Rattle.price_bound.specs.EdgeGroups.{IsAtGroup, IsBelow, IsGroupPlace, IsInGroup, IsNotBelow, IsOfferPlace}
 use Rattle.price_bound.specs.Paths.{Stage, lower_cell, offer_by, with_priced_cost, with_priced_costs}
 use Rattle.price_bound.proofs.Adding.{small_more, small_zero}
-use Rattle.price_bound.proofs.ChainCells.{fold_more, get-bare, length-offered, lower_small, offered_at, some_small, with_priced_cost_small}
+use Rattle.price_bound.proofs.ChainCells.{fold_more, get-bare, length-offered, lower_small, nothing_ahead, offered_at, some_small, with_priced_cost_small}
 use Rattle.price_bound.proofs.ChainCells.{priced_cost_at, priced_cost_few}
 use Rattle.price_bound.proofs.Rows.{get-with_priced_costs}
 
 -- ---- where the edges from a composition begin
 
--- where the edge at a place leads from a lower composition, so do those before it
-pub lower_before : (edges : List Edge) (comp place : ℕ) (e : Edge) → AreInOrder edges → place < length edges
-    → (get_or edges place e).from < comp → (k : ℕ) (d : Edge) → k < place + 1 → (get_or edges k d).from < comp
-lower_before edges comp place e order inside low k d less =
-    let same : get_or edges place d ≡ get_or edges place e = get_or_default edges place d e inside in
-    ⊎_elim
-    (λ before. elim (order k place d before inside) [
-      | inl lower ↦ omega (arith, lower, low, ap (λ (x : Edge). x.from) same)
-      | inr level ↦ omega (arith, level.0, low, ap (λ (x : Edge). x.from) same)
-    ])
-    (λ past. let at : k ≡ place = omega (arith, past, less) in
-    omega (arith, low, ap (λ (n : ℕ). (get_or edges n d).from) at, ap (λ (x : Edge). x.from) same))
-    (cases_lt k place)
+-- an edge that is before one that is below is below
+below_more : (x y : Edge) (comp to : ℕ) → IsBefore x y → IsBelow y comp to → IsBelow x comp to
+below_more x y comp to (inl lower) (inl under) = inl (omega (arith, lower, under))
+below_more x y comp to (inl lower) (inr same) = inl (omega (arith, lower, same.0))
+below_more x y comp to (inr level) (inl under) = inl (omega (arith, level.0, under))
+below_more x y comp to (inr level) (inr same) = inr (level.0 ∙ same.0, omega (arith, level.1, same.1))
 
--- and where it leads from no lower one, neither do those after it
-pub no_lower_after : (edges : List Edge) (comp place : ℕ) (e : Edge) → AreInOrder edges → place < length edges
-    → comp ≤ (get_or edges place e).from → (k : ℕ) (d : Edge) → place ≤ k → k < length edges → comp ≤ (get_or edges k d).from
-no_lower_after edges comp place e order inside high k d from within =
-    let same : get_or edges place d ≡ get_or edges place e = get_or_default edges place d e inside in
-    ⊎_elim
-    (λ beyond. elim (order place k d beyond within) [
-      | inl lower ↦ omega (arith, lower, high, ap (λ (x : Edge). x.from) same)
-      | inr level ↦ omega (arith, level.0, high, ap (λ (x : Edge). x.from) same)
-    ])
-    (λ past. let at : k ≡ place = omega (arith, past, from) in
-    omega (arith, high, ap (λ (n : ℕ). (get_or edges n d).from) at, ap (λ (x : Edge). x.from) same))
-    (cases_lt place k)
+-- and one that is after one that is not below is not below
+not_below_more : (x y : Edge) (comp to : ℕ) → IsBefore x y → IsNotBelow x comp to → IsNotBelow y comp to
+not_below_more x y comp to (inl lower) (inl above) = inl (omega (arith, lower, above))
+not_below_more x y comp to (inl lower) (inr same) = inl (omega (arith, lower, same.0))
+not_below_more x y comp to (inr level) (inl above) = inl (omega (arith, level.0, above))
+not_below_more x y comp to (inr level) (inr same) = inr (sym level.0 ∙ same.0, omega (arith, level.1, same.1))
 
-pub place_at : (edges : List Edge) (comp place : ℕ) → AreInOrder edges → IsAtGroup edges comp place → IsGroupPlace edges comp place
-place_at edges comp place order is = record {
+-- where the edge at a place is below, so are those before it
+pub all_below : (edges : List Edge) (comp to place : ℕ) (e : Edge) → AreInOrder edges → place < length edges
+    → IsBelow (get_or edges place e) comp to → (k : ℕ) (d : Edge) → k < place + 1 → IsBelow (get_or edges k d) comp to
+all_below edges comp to place e order inside low k d less =
+    let same : get_or edges place d ≡ get_or edges place e = get_or_default edges place d e inside in
+    let here : IsBelow (get_or edges place d) comp to = subst (λ (x : Edge). IsBelow x comp to) (sym same) low in
+    elim (cases_lt k place) [
+      | inl before ↦ below_more (get_or edges k d) (get_or edges place d) comp to (order k place d before inside) here
+      | inr past ↦
+          let at : place ≡ k = omega (arith, past, less) in
+          subst (λ (n : ℕ). IsBelow (get_or edges n d) comp to) at here
+    ]
+
+-- and where it is not, neither are those after it
+pub none_below : (edges : List Edge) (comp to place : ℕ) (e : Edge) → AreInOrder edges → place < length edges
+    → IsNotBelow (get_or edges place e) comp to → (k : ℕ) (d : Edge) → place ≤ k → k < length edges → IsNotBelow (get_or edges k d) comp to
+none_below edges comp to place e order inside high k d from within =
+    let same : get_or edges place d ≡ get_or edges place e = get_or_default edges place d e inside in
+    let here : IsNotBelow (get_or edges place d) comp to = subst (λ (x : Edge). IsNotBelow x comp to) (sym same) high in
+    elim (cases_lt place k) [
+      | inl beyond ↦ not_below_more (get_or edges place d) (get_or edges k d) comp to (order place k d beyond within) here
+      | inr past ↦
+          let at : place ≡ k = omega (arith, past, from) in
+          subst (λ (n : ℕ). IsNotBelow (get_or edges n d) comp to) at here
+    ]
+
+pub place_at : (edges : List Edge) (comp to place : ℕ) → AreInOrder edges → IsAtGroup edges comp to place → IsGroupPlace edges comp to place
+place_at edges comp to place order is = record {
   within = omega (arith, is.within);
   before = λ k d less. elim is.before [
     | inl first ↦ absurd (omega (arith, first, less))
     | inr low ↦ elim (cases_eq place 0) [
       | inl first ↦ absurd (omega (arith, first, less))
-      | inr differ ↦ lower_before edges comp (place - 1) d order (omega (arith, is.within)) (low d) k d (omega (arith, less, differ))
+      | inr differ ↦ all_below edges comp to (place - 1) d order (omega (arith, is.within)) (low d) k d (omega (arith, less, differ))
     ]
   ];
-  after = λ k d from within. no_lower_after edges comp place d order is.within (is.here d) k d from within;
+  after = λ k d from within. none_below edges comp to place d order is.within (is.here d) k d from within;
+}
+
+-- below the first composition that has a cell nothing is offered
+pub offer_place : (edges : List Edge) (ahead : List (Option Cell)) (comp to place : ℕ) → ((k : ℕ) → k < to → get_or ahead k None ≡ None)
+    → IsGroupPlace edges comp to place → IsOfferPlace edges ahead comp place
+offer_place edges ahead comp to place none is = record {
+  within = is.within;
+  before = λ k d less. elim (is.before k d less) [
+    | inl lower ↦ inl lower
+    | inr same ↦ inr (none (get_or edges k d).to same.1)
+  ];
+  after = λ k d from inside. elim (is.after k d from inside) [
+    | inl above ↦ omega (arith, above)
+    | inr same ↦ omega (arith, same.0)
+  ];
 }
 
 -- ---- what the edges from one composition offer to it
@@ -97,35 +124,72 @@ module _ (priced : Priced) (link : Option ℕ) (ahead : List (Option Cell)) (old
       (get_or-set_same (fold (offered_at priced link ahead) old (take i edges)) edge.from _ None
       (omega (arith, here, inside, length-after (take i edges) old)))
 
-  -- so do any number of edges from elsewhere
-  pub all_elsewhere : (j i : ℕ) → i ≤ j → j ≤ length edges
-      → ((k : ℕ) (d : Edge) → i ≤ k → k < j → (get_or edges k d).from ≢ comp) → has_after j ≡ has_after i
-  all_elsewhere zero i le most differ = let same : i ≡ zero = omega (arith, le) in sym (ap has_after same)
-  all_elsewhere (suc j) i le most differ = elim (cases_eq i (suc j)) [
+  -- and nothing where there is no cell ahead
+  pub idle : (i : ℕ) (edge : Edge) → i < length edges → comp < length old
+      → ((get_or edges i edge).from ≢ comp) ⊎ (get_or ahead (get_or edges i edge).to None ≡ None) → has_after (suc i) ≡ has_after i
+  idle i edge below inside (inl differ) = elsewhere i edge below differ
+  idle i edge below inside (inr none) = elim (cases_eq (get_or edges i edge).from comp) [
+    | inl same ↦
+        let here : get_or edges i edge ≡ get_or edges i (get_or edges i edge) = get_or_default edges i edge (get_or edges i edge) below in
+        one_offer i (get_or edges i edge) below here same inside
+        ∙ ap (lower_cell (has_after i)) (sym (nothing_ahead (get_or edges i edge).to (price_of priced link (get_or edges i edge))
+        (get_or ahead (get_or edges i edge).to None) none))
+        ∙ lower_none (has_after i)
+    | inr differ ↦ elsewhere i edge below differ
+  ]
+    where
+      lower_none : (cell : Option Cell) → lower_cell cell None ≡ cell
+      lower_none None = refl
+      lower_none (Some cell) = refl
+
+  -- so it is with any number of such edges
+  pub all_idle : (j i : ℕ) → i ≤ j → j ≤ length edges → comp < length old
+      → ((k : ℕ) (d : Edge) → i ≤ k → k < j → ((get_or edges k d).from ≢ comp) ⊎ (get_or ahead (get_or edges k d).to None ≡ None))
+      → has_after j ≡ has_after i
+  all_idle zero i le most inside idle_each = let same : i ≡ zero = omega (arith, le) in sym (ap has_after same)
+  all_idle (suc j) i le most inside idle_each = elim (cases_eq i (suc j)) [
     | inl same ↦ sym (ap has_after same)
     | inr apart ↦
         let edge : Edge = some_edge edges (omega (arith, most)) in
-        elsewhere j edge (omega (arith, most)) (λ e. differ j edge (omega (arith, le, apart)) (omega arith) e)
-        ∙ all_elsewhere j i (omega (arith, le, apart)) (omega (arith, most)) (λ k d from lt. differ k d from (omega (arith, lt)))
+        idle j edge (omega (arith, most)) inside (idle_each j edge (omega (arith, le, apart)) (omega arith))
+        ∙ all_idle j i (omega (arith, le, apart)) (omega (arith, most)) inside (λ k d from lt. idle_each k d from (omega (arith, lt)))
   ]
 
   -- before the edges from it nothing was offered to it; after them nothing is
-  pub at_begin : (begin : ℕ) → IsGroupPlace edges comp begin → has_after begin ≡ get_or old comp None
-  at_begin begin is = all_elsewhere begin 0 (omega arith) is.within (λ k d from lt e. absurd (omega (arith, is.before k d lt, e)))
+  pub at_begin : (begin : ℕ) → comp < length old → IsOfferPlace edges ahead comp begin → has_after begin ≡ get_or old comp None
+  at_begin begin inside is = all_idle begin 0 (omega arith) is.within inside (λ k d from lt. elim (is.before k d lt) [
+    | inl lower ↦ inl (λ e. absurd (omega (arith, lower, e)))
+    | inr none ↦ inr none
+  ])
 
-  pub at_end : (begin place : ℕ) → AreInOrder edges → IsGroupPlace edges comp begin → begin ≤ place → place ≤ length edges
-      → (IsInGroup edges comp place → ⊥) → get_or (fold (offered_at priced link ahead) old edges) comp None ≡ has_after place
-  at_end begin place order is from most out =
+  pub at_end : (end place : ℕ) → comp < length old → AreInOrder edges → ((k : ℕ) → end ≤ k → get_or ahead k None ≡ None)
+      → ((k : ℕ) (d : Edge) → place ≤ k → k < length edges → comp ≤ (get_or edges k d).from) → place ≤ length edges
+      → (IsInGroup edges comp end place → ⊥) → get_or (fold (offered_at priced link ahead) old edges) comp None ≡ has_after place
+  at_end end place inside order none least most out =
       sym (ap (λ (xs : List Edge). get_or (fold (offered_at priced link ahead) old xs) comp None) (take_all (length edges) edges (omega arith)))
-      ∙ all_elsewhere (length edges) place most (omega arith) apart
+      ∙ all_idle (length edges) place most (omega arith) inside apart
     where
-      apart : (k : ℕ) (d : Edge) → place ≤ k → k < length edges → (get_or edges k d).from ≢ comp
-      apart k d le lt same =
-          let inside : place < length edges = omega (arith, le, lt) in
-          let low : comp ≤ (get_or edges place d).from = is.after place d from inside in
-          let differs : (get_or edges place d).from ≢ comp =
-          (λ e. out (record { within = inside; here = λ x. ap (λ (y : Edge). y.from) (get_or_default edges place x d inside) ∙ e })) in
-          absurd (omega (arith, same, no_lower_after edges (suc comp) place d order inside (omega (arith, low, differs)) k d le lt))
+      -- the edge at the place is above those that may offer
+      above : (d : Edge) → place < length edges → IsNotBelow (get_or edges place d) comp end
+      above d there = elim (cases_eq (get_or edges place d).from comp) [
+        | inl same ↦ elim (cases_lt (get_or edges place d).to end) [
+          | inl under ↦ absurd (out (record {
+            within = there;
+            here = λ x. ap (λ (y : Edge). y.from) (get_or_default edges place x d there) ∙ same;
+            under = λ x. omega (arith, under, ap (λ (y : Edge). y.to) (get_or_default edges place x d there));
+          }))
+          | inr past ↦ inr (same, omega (arith, past))
+        ]
+        | inr differ ↦ let low : comp ≤ (get_or edges place d).from = least place d (omega arith) there in inl (omega (arith, low, differ))
+      ]
+
+      apart : (k : ℕ) (d : Edge) → place ≤ k → k < length edges → ((get_or edges k d).from ≢ comp) ⊎ (get_or ahead (get_or edges k d).to None ≡ None)
+      apart k d le lt =
+          let there : place < length edges = omega (arith, le, lt) in
+          elim (none_below edges comp end place d order there (above d there) k d le lt) [
+            | inl higher ↦ inl (λ e. absurd (omega (arith, higher, e)))
+            | inr same ↦ inr (none (get_or edges k d).to same.1)
+          ]
 
 -- ---- the edges of a link
 
@@ -138,6 +202,9 @@ edges_in_order priced l edges are at = (are.each l edges at).in_order
 abbrev none_row : Priced → List (Option Cell)
 none_row priced = replicate (comps_of priced) None
 
+listed_in : (priced : Priced) (comp : ℕ) → comp < comps_of priced → comp < length (none_row priced)
+listed_in priced comp below = omega (arith, below, length-replicate {A = Option Cell} (comps_of priced) None)
+
 -- the cells so far are those of the edges so far from a composition
 pub record IsLeastSoFar (priced : Priced) (l : ℕ) (edges : List Edge) (ahead : List (Option Cell)) (comp begin place : ℕ) (least : Option Cell) : Type 0 where
   pub from : begin ≤ place
@@ -146,28 +213,28 @@ pub record IsLeastSoFar (priced : Priced) (l : ℕ) (edges : List Edge) (ahead :
   pub small : (bound : ℕ) → AreSmallCells bound ahead → IfSome least (λ cell. IsSmall (bound + 13000000000000000) cell.value)
 
 pub least_begins : (priced : Priced) (l : ℕ) (edges : List Edge) (ahead : List (Option Cell)) (comp begin : ℕ) → comp < comps_of priced
-    → IsGroupPlace edges comp begin → IsLeastSoFar priced l edges ahead comp begin begin None
+    → IsOfferPlace edges ahead comp begin → IsLeastSoFar priced l edges ahead comp begin begin None
 least_begins priced l edges ahead comp begin below is = record {
   from = omega arith;
   most = is.within;
-  cell = sym (at_begin priced (Some l) ahead (none_row priced) edges comp begin is ∙ get_or-replicate (comps_of priced) comp None None below);
+  cell = sym (at_begin priced (Some l) ahead (none_row priced) edges comp begin (listed_in priced comp below) is ∙ get_or-replicate (comps_of priced) comp None None below);
   small = λ bound small. tt;
 }
 
 -- one edge from it more
 pub least_more : (priced : Priced) (l : ℕ) (edges : List Edge) (ahead : List (Option Cell)) (comp begin place : ℕ) (least : Option Cell)
-    → comp < comps_of priced → IsLeastSoFar priced l edges ahead comp begin place least → IsInGroup edges comp place
-    → (edge : Edge) → edge ≡ get_or edges place edge → (offer new : Option Cell)
+    → comp < comps_of priced → IsLeastSoFar priced l edges ahead comp begin place least
+    → place < length edges → ((d : Edge) → (get_or edges place d).from ≡ comp) → (edge : Edge) → edge ≡ get_or edges place edge → (offer new : Option Cell)
     → offer ≡ offer_by edge.to (price_of priced (Some l) edge) (get_or ahead edge.to None)
     → ((bound : ℕ) → AreSmallCells bound ahead → IfSome offer (λ cell. IsSmall (bound + 13000000000000000) cell.value))
     → new ≡ lower_cell least offer → IsLeastSoFar priced l edges ahead comp begin (suc place) new
-least_more priced l edges ahead comp begin place least listed done is edge there offer new offered small made = record {
+least_more priced l edges ahead comp begin place least listed done below here edge there offer new offered small made = record {
   from = omega (arith, done.from);
-  most = omega (arith, is.within);
+  most = omega (arith, below);
   cell = made ∙ ap (λ (o : Option Cell). lower_cell o offer) done.cell
       ∙ ap (lower_cell (get_or (fold (offered_at priced (Some l) ahead) (none_row priced) (take place edges)) comp None)) offered
-      ∙ sym (one_offer priced (Some l) ahead (none_row priced) edges comp place edge is.within there
-      (ap (λ (x : Edge). x.from) there ∙ is.here edge) (omega (arith, listed, length-replicate {A = Option Cell} (comps_of priced) None)));
+      ∙ sym (one_offer priced (Some l) ahead (none_row priced) edges comp place edge below there
+      (ap (λ (x : Edge). x.from) there ∙ here edge) (omega (arith, listed, length-replicate {A = Option Cell} (comps_of priced) None)));
   small = λ bound few. subst (λ (o : Option Cell). IfSome o (λ cell. IsSmall (bound + 13000000000000000) cell.value)) (sym made)
       (lower_small (bound + 13000000000000000) least offer (done.small bound few) (small bound few));
 }
@@ -185,13 +252,15 @@ priced_cost_step bound priced_cost cell new is few small = subst (λ (o : Option
     (some_more (bound + 13000000000000000 + 8000000000000000) (bound + 21000000000000000) (with_priced_cost (Some priced_cost) cell) (omega arith)
     (with_priced_cost_small (bound + 13000000000000000) 8000000000000000 (Some priced_cost) cell few small))
 
-pub least_ends : (priced : Priced) (l : ℕ) (edges : List Edge) (ahead : List (Option Cell)) (comp begin place : ℕ) (least : Option Cell)
-    → AreGraphs priced.day priced.graphs → slice_get priced.graphs l ≡ Some edges
-    → IsGroupPlace edges comp begin → IsLeastSoFar priced l edges ahead comp begin place least → (IsInGroup edges comp place → ⊥)
+pub least_ends : (priced : Priced) (l : ℕ) (edges : List Edge) (ahead : List (Option Cell)) (comp begin end place : ℕ) (least : Option Cell)
+    → AreGraphs priced.day priced.graphs → slice_get priced.graphs l ≡ Some edges → comp < comps_of priced
+    → ((k : ℕ) → end ≤ k → get_or ahead k None ≡ None)
+    → IsOfferPlace edges ahead comp begin → IsLeastSoFar priced l edges ahead comp begin place least → (IsInGroup edges comp end place → ⊥)
     → least ≡ offered_from priced (Some l) ahead comp
-least_ends priced l edges ahead comp begin place least are at is done out =
+least_ends priced l edges ahead comp begin end place least are at below none is done out =
     done.cell
-    ∙ sym (at_end priced (Some l) ahead (none_row priced) edges comp begin place (edges_in_order priced l edges are at) is done.from done.most out)
+    ∙ sym (at_end priced (Some l) ahead (none_row priced) edges comp end place (listed_in priced comp below) (edges_in_order priced l edges are at)
+    none (λ k d from inside. is.after k d (omega (arith, from, done.from)) inside) done.most out)
     ∙ sym (ap (λ (xs : List Edge). get_or (fold (offered_at priced (Some l) ahead) (none_row priced) xs) comp None) (edges_are priced l edges at))
 
 -- ---- a row that is made cell by cell

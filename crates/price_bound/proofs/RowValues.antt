@@ -1,15 +1,20 @@
 -- Rows that are made by the members of a set of compositions, word by word.
-use Rattle.std.proofs.Common.{◌≡◌, ◌≢◌, ℕ, suc, ◌+◌, ◌-◌, ◌*◌, ◌/◌, ◌%◌, ◌^◌, ◌<◌, ◌≤◌, List, length, get_or, set, length-set, Bool, false, Option, None}
-use Rattle.std.proofs.Common.{ℤ, pos, sym, ap, ◌∙◌, subst, arith, inl, inr, eqb, map}
+use Rattle.std.proofs.Common.{◌≡◌, ◌≢◌, ℕ, suc, ◌+◌, ◌-◌, ◌*◌, ◌/◌, ◌%◌, ◌^◌, ◌<◌, ◌≤◌, ◌⊎◌, List, length, get_or, set, length-set, Bool, false, Option, None}
+use Rattle.std.proofs.Common.{ℤ, pos, sym, ap, ◌∙◌, subst, arith, inl, inr, eqb, map, min, w64}
 use Rattle.std.proofs.lemmas.Bool.{cases_eq, cases_lt}
+use Rattle.std.proofs.lemmas.Nat.{leading_length}
+use Rattle.std.proofs.lemmas.Nat.Bits.{bit_at_above, bit_at-trailing_zeros}
+use Rattle.std.specs.Int.{leading_zeros, trailing_zeros}
 use Rattle.std.proofs.lemmas.List.{get_or-map, get_or-set_other, get_or-set_same, length-map}
 use Rattle.std.proofs.Math.Nat.{div-div-eq-div-mul, pow-suc, zero-div}
 use Rattle.std.specs.Prelude.{slice_index}
 use Rattle.price_bound.specs.declared.cells.Cell.{Cell}
-use Rattle.price_bound.specs.CellRows.{IsHeld, bare, cell_in}
+use Rattle.price_bound.specs.declared.row_values.CompRange.{CompRange}
+use Rattle.price_bound.specs.CellRows.{AreWithin, IsHeld, bare, cell_in}
 use Rattle.price_bound.specs.HeldValues.{no_value}
 use Rattle.price_bound.specs.PassValues.{value_at}
-use Rattle.price_bound.specs.RowValues.{AreFilled, HasCells, TellsAll, TellsMembers}
+use Rattle.price_bound.specs.RowValues.{AreFilled, AreMembersIn, HasCells, HaveNone, TellsAll, TellsMembers}
+use Rattle.price_bound.proofs.CellValues.{none_is}
 
 module _ (n : ℕ) (cell : ℕ → Option Cell) (IsFew : Option Cell → Type 0) where
   -- a row of which the values are out is filled up to the first composition
@@ -119,6 +124,19 @@ module _ (n : ℕ) (cell : ℕ → Option Cell) (IsFew : Option Cell → Type 0)
       read : (k : ℕ) → k < n → get_or (map cell_in values) k None ≡ cell_in (value_at values k)
       read k below = get_or-map cell_in values k (pos 0) None (omega (arith, below, done.long))
 
+  -- those of a set that is within a range have no value outside of it
+  pub filled_within : (range : CompRange) (member : ℕ → Bool) (values : List ℤ) → AreFilled n cell IsFew n values → HaveNone member cell
+      → AreMembersIn range member n → range.begin ≤ n → range.end ≤ n → AreWithin range values
+  filled_within range member values done none in_range begin most = record {
+    begin = omega (arith, begin, done.long);
+    most = omega (arith, most, done.long);
+    before = λ k lt below. out k (omega (arith, below, done.long)) (inl lt);
+    after = λ k past below. out k (omega (arith, below, done.long)) (inr past);
+  }
+    where
+      out : (k : ℕ) → k < n → (k < range.begin) ⊎ (range.end ≤ k) → value_at values k ≡ no_value
+      out k below outside = none_is (value_at values k) (done.held k below) (done.cells k below below ∙ ap bare (none k (in_range k below outside)))
+
 -- ---- bits
 
 -- what is left of a word after one bit more
@@ -137,3 +155,48 @@ pub bit_tells : (member : ℕ → Bool) (begin word comp left : ℕ) → TellsMe
 bit_tells member begin word comp left tells from to is =
     let place : begin + (comp - begin) ≡ comp = omega (arith, from) in
     ap member (sym place) ∙ tells (comp - begin) (omega (arith, from, to)) ∙ ap (λ (d : ℕ). eqb (d % 2) 1) (sym is)
+
+-- ---- the range of the members
+
+-- no bit of a word below a lowest one, or from an end on, tells of a member
+pub members_with : (range : CompRange) (from to : ℕ) (member : ℕ → Bool) (word begin lowest end : ℕ) → from ≤ range.begin → from ≤ begin + lowest
+    → begin + end ≤ to → ((bit : ℕ) → bit < lowest → word / 2 ^ bit % 2 ≡ 0) → ((bit : ℕ) → end ≤ bit → word / 2 ^ bit % 2 ≡ 0)
+    → AreMembersIn range member begin → TellsMembers member begin word → (k : ℕ) → k < begin + 64 → (k < from) ⊎ (to ≤ k) → member k ≡ false
+members_with range from to member word begin lowest end under first last low high done tells k lt outside = elim (cases_lt k begin) [
+  | inl before ↦ elim outside [
+    | inl less ↦ done k before (inl (omega (arith, less, under)))
+    | inr past ↦ absurd (omega (arith, before, past, last))
+  ]
+  | inr here ↦ elim outside [
+    | inl less ↦ told here (low (k - begin) (omega (arith, here, less, first)))
+    | inr past ↦ told here (high (k - begin) (omega (arith, here, past, last)))
+  ]
+]
+  where
+    told : begin ≤ k → word / 2 ^ (k - begin) % 2 ≡ 0 → member k ≡ false
+    told here none =
+        let place : begin + (k - begin) ≡ k = omega (arith, here) in
+        ap member (sym place) ∙ tells (k - begin) (omega (arith, here, lt)) ∙ ap (λ (bit : ℕ). eqb bit 1) none
+
+-- the lowest bit and the highest one of a word bound its members
+pub members_in_word : (range : CompRange) (from to : ℕ) (member : ℕ → Bool) (word begin : ℕ) → 0 < word → word < 2 ^ 64
+    → from ≡ min range.begin (begin + trailing_zeros w64 word) → to ≡ begin + 64 - leading_zeros w64 word
+    → AreMembersIn range member begin → TellsMembers member begin word
+    → (k : ℕ) → k < begin + 64 → (k < from) ⊎ (to ≤ k) → member k ≡ false
+members_in_word range from to member word begin some fits first last done tells =
+    let low : (bit : ℕ) → bit < trailing_zeros w64 word → word / 2 ^ bit % 2 ≡ 0 = (bit_at-trailing_zeros w64 word some fits).2 in
+    let top : (m : ℕ) × (leading_zeros w64 word + m ≡ 64) × (word < 2 ^ m) × (2 ^ m ≤ 2 * word + 1) = leading_length 64 word fits in
+    let sum : leading_zeros w64 word + top.0 ≡ 64 = top.1 in
+    members_with range from to member word begin (trailing_zeros w64 word) top.0 (omega (arith, first)) (omega (arith, first))
+    (omega (arith, last, sum)) low (λ bit past. bit_at_above word top.0 bit top.2 past) done tells
+
+-- the bits of words tell of the members, word by word
+pub word_tells : (member : ℕ → Bool) (words : List ℕ) (place : ℕ)
+    → ((comp : ℕ) → member comp ≡ eqb (slice_index words (comp / 64) / 2 ^ (comp % 64) % 2) 1)
+    → TellsMembers member (place * 64) (slice_index words place)
+word_tells member words place tells bit below =
+    let at : (place * 64 + bit) / 64 ≡ place = omega (arith, below) in
+    let rest : (place * 64 + bit) % 64 ≡ bit = omega (arith, below) in
+    tells (place * 64 + bit)
+    ∙ ap (λ (k : ℕ). eqb (slice_index words k / 2 ^ ((place * 64 + bit) % 64) % 2) 1) at
+    ∙ ap (λ (k : ℕ). eqb (slice_index words place / 2 ^ k % 2) 1) rest

@@ -1,6 +1,6 @@
 -- Rows of cells while they are made, and picks along a chain.
 use Rattle.std.specs.Prelude.{ℕ, ◌≡◌, ◌<◌, List, [], ◌∷◌, length, get_or, set, fold, replicate, map, Option, None, Some}
-use Rattle.std.specs.Prelude.{slice_get, if◌then◌else◌, int_lt, ℤ, pos, ◌<ℤ◌, ◌⊎◌, All}
+use Rattle.std.specs.Prelude.{slice_get, if◌then◌else◌, int_lt, ℤ, pos, ◌<ℤ◌, ◌≤◌, ◌⊎◌, All}
 use Rattle.timetable.specs.Compositions.{compositions_of}
 use Rattle.rules.specs.declared.records.Link.{Link}
 use Rattle.timetable.specs.Chains.{leads_from, leads_to}
@@ -8,8 +8,10 @@ use Rattle.timetable.specs.Day.{Day}
 use Rattle.timetable.specs.Links.{outgoing}
 use Rattle.transitions.specs.Edges.{IsAdmittedComp}
 use Rattle.price_bound.specs.declared.cells.Cell.{Cell}
+use Rattle.price_bound.specs.declared.row_values.CompRange.{CompRange}
 use Rattle.price_bound.specs.CellSizes.{AreSmallCells, most_ahead}
 use Rattle.price_bound.specs.ChainStages.{Priced, edges_of, price_of, stage_of, stages_of}
+use Rattle.price_bound.specs.HeldValues.{no_value}
 use Rattle.price_bound.specs.Paths.{last_row, lower_cell, offer_by, row_before, rows_of}
 
 -- a row after a cell is offered to a composition
@@ -51,6 +53,13 @@ IsHeld value = (value <ℤ pos 9050000000000000000) ⊎ (value ≡ pos 910000000
 
 abbrev pub AreHeld : List ℤ → Type 0
 AreHeld values = All IsHeld values
+
+-- no composition outside of a range has a value
+pub record AreWithin (range : CompRange) (values : List ℤ) : Type 0 where
+  pub begin : range.begin ≤ length values
+  pub most : range.end ≤ length values
+  pub before : (k : ℕ) → k < range.begin → k < length values → get_or values k (pos 0) ≡ no_value
+  pub after : (k : ℕ) → range.end ≤ k → k < length values → get_or values k (pos 0) ≡ no_value
 
 -- what a composition has after the edges of a link offered their cells, where there was none before
 abbrev pub offered_from : Priced → Option ℕ → List (Option Cell) → ℕ → Option Cell

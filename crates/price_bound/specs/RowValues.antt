@@ -1,5 +1,5 @@
 -- Rows that are made by the members of a set of compositions, word by word.
-use Rattle.std.specs.Prelude.{ℕ, ◌≡◌, ◌<◌, ◌≤◌, ◌+◌, ◌/◌, ◌%◌, ◌^◌, ◌==◌, List, length, get_or, Bool, false}
+use Rattle.std.specs.Prelude.{ℕ, ◌≡◌, ◌<◌, ◌≤◌, ◌+◌, ◌/◌, ◌%◌, ◌^◌, ◌==◌, ◌⊎◌, List, length, get_or, Bool, false}
 use Rattle.std.specs.Prelude.{Option, None, Some, IfSome, is_none, slice_get, slice_index, ℤ, pos}
 use Rattle.timetable.specs.Links.{outgoing}
 use Rattle.transitions.specs.declared.edge.Edge.{Edge}
@@ -9,6 +9,7 @@ use Rattle.branch_tree.specs.Regions.{has}
 use Rattle.price_bound.specs.declared.cells.Cell.{Cell}
 use Rattle.price_bound.specs.declared.passes.PassedValues.{PassedValues}
 use Rattle.price_bound.specs.declared.priced_costs.PricedCosts.{PricedCosts}
+use Rattle.price_bound.specs.declared.row_values.CompRange.{CompRange}
 use Rattle.price_bound.specs.CellRows.{IsHeld, bare, cell_in, comps_of, offered_from}
 use Rattle.price_bound.specs.CellSizes.{AreSmallCells, IsSmall, most_ahead, most_edge_price, most_offered, most_step}
 use Rattle.price_bound.specs.ChainStages.{Priced, priced_cost_of}
@@ -26,6 +27,11 @@ HaveNone member cell = (comp : ℕ) → member comp ≡ false → cell comp ≡ 
 abbrev pub TellsMembers : (ℕ → Bool) → ℕ → ℕ → Type 0
 TellsMembers member begin word =
     (bit : ℕ) → bit < WORD_BITS → member (begin + bit) ≡ (word / 2 ^ bit % 2 == 1)
+
+-- of the first compositions, of which there are so many, those outside of a range are no members
+abbrev pub AreMembersIn : CompRange → (ℕ → Bool) → ℕ → Type 0
+AreMembersIn range member comps =
+    (comp : ℕ) → comp < comps → (comp < range.begin) ⊎ (range.end ≤ comp) → member comp ≡ false
 
 -- the bits of words tell of each composition of so many that it is a member
 abbrev pub TellsAll : List ℕ → ℕ → Type 0

@@ -10,7 +10,7 @@ ghost use Rattle.price_bound.specs.Paths.{entered, least_from, lower_cell, offer
 ghost use Rattle.price_bound.specs.CellSizes.{IsSmall, most_edge_price, most_offered, most_step};
 
 use crate::priced_costs::Amount;
-use crate::row_values::{RowValues, put_row};
+use crate::row_values::{CompRange, RowValues, clear_range, put_row};
 use branch_tree::CompositionSet;
 use rail_base::limits::MAX_COMPOSITIONS;
 use rail_base::{CompNo, NoMemory};
@@ -28,6 +28,11 @@ pub(crate) struct Cell {
 
 /// What stands in a row for no cell.
 pub(crate) const NO_VALUE: i64 = 9_100_000_000_000_000_000;
+/// A cell that stands for none.
+pub(crate) const NO_CELL: Cell = Cell {
+    value: NO_VALUE,
+    next: CompNo(0),
+};
 /// What the values of cells are below, in a row.
 const LIMIT: i64 = 9_050_000_000_000_000_000;
 
@@ -36,18 +41,20 @@ const LIMIT: i64 = 9_050_000_000_000_000_000;
 #[derive(Drop)]
 pub(crate) struct CellRow {
     values: Vec<i64>,
+    /// No other composition has a cell.
+    range: CompRange,
 }
 
 impl Model for CellRow {
     ghost use Rattle.std.specs.Prelude.{List, Option, map};
     ghost use Rattle.price_bound.specs.declared.cells.Cell.{Cell};
-    ghost use Rattle.price_bound.specs.CellRows.{AreHeld, cell_in};
+    ghost use Rattle.price_bound.specs.CellRows.{AreHeld, AreWithin, cell_in};
 
     ghost Value = { List (Option Cell) };
 
     ghost view = { λ a. map cell_in a.values.items };
 
-    ghost invariant = { λ a. AreHeld a.values.items };
+    ghost invariant = { λ a. AreHeld a.values.items × AreWithin a.range a.values.items };
 }
 
 impl CellRow {
@@ -57,6 +64,7 @@ impl CellRow {
     {
         Ok(CellRow {
             values: vec![in alloc; NO_VALUE; comps]?,
+            range: CompRange { begin: 0, end: 0 },
         })
     }
 
@@ -65,6 +73,20 @@ impl CellRow {
         ensures { result ≡ length self.now }
     {
         self.values.len()
+    }
+
+    /// The first composition that may have a cell.
+    pub(crate) fn begin(&self) -> usize
+        ensures { (comp : ℕ) → comp < result → get_or self.now comp None ≡ None }
+    {
+        self.range.begin
+    }
+
+    /// The first composition from which on none has a cell.
+    pub(crate) fn end(&self) -> usize
+        ensures { (comp : ℕ) → result ≤ comp → get_or self.now comp None ≡ None }
+    {
+        self.range.end
     }
 
     /// The value that a composition, which is below `len`, has in the row; `NO_VALUE` where there is no cell.
@@ -96,9 +118,8 @@ impl CellRow {
     pub(crate) fn clear(&mut self)
         ensures { self.new ≡ map (λ _. None) self.old }
     {
-        for comp in 0..self.values.len() {
-            self.values[comp] = NO_VALUE;
-        }
+        clear_range(&mut self.values, self.range);
+        self.range = CompRange { begin: 0, end: 0 };
     }
 
     /// Makes the cells of the row those of the members of a set.
@@ -111,7 +132,7 @@ impl CellRow {
         requires row { length self.old ≡ V.comps values.now }
         ensures { HasCells (V.comps values.now) (V.cell values.now) (V.IsFew values.now) self.new }
     {
-        put_row(values, set.words(), &mut self.values);
+        self.range = put_row(values, set.words(), self.range, &mut self.values);
     }
 
     /// Changes the cell of a composition, which is below `len`.
@@ -121,6 +142,10 @@ impl CellRow {
         ensures { self.new ≡ set self.old comp (bare cell) }
     {
         self.values[comp.place()] = value_of(cell);
+        self.range = CompRange {
+            begin: 0,
+            end: self.values.len(),
+        };
     }
 
     /// The least value of the cells, of which there are so many, with the first composition that has it in place of the
@@ -129,11 +154,8 @@ impl CellRow {
         requires { comps ≡ length self.now }
         ensures { result ≡ least_from 0 None self.now }
     {
-        let mut least = Cell {
-            value: NO_VALUE,
-            next: CompNo(0),
-        };
-        for comp in 0..comps {
+        let mut least = NO_CELL;
+        for comp in self.range.begin as u32..self.range.end as u32 {
             least = lower_value(least, CompNo(comp), self.value(CompNo(comp)));
         }
         held_cell(least)
@@ -182,30 +204,28 @@ fn lower_value(cell: Cell, comp: CompNo, value: i64) -> Cell
 }
 
 /// The cell, if its value is one.
-fn held_cell(cell: Cell) -> Option<Cell>
+pub(crate) fn held_cell(cell: Cell) -> Option<Cell>
     ensures { result ≡ held_cell cell }
 {
     if cell.value < LIMIT { Some(cell) } else { None }
 }
 
-/// The first of two cells, unless the other is of lower value.
-pub(crate) fn lower_cell(cell: Option<Cell>, other: Option<Cell>) -> Option<Cell>
-    ensures { result ≡ lower_cell cell other }
+/// A cell, which may stand for none, unless another is of lower value.
+pub(crate) fn lower_held(cell: Cell, other: Option<Cell>) -> Cell
+    requires cell { IsHeld cell.value }
+    requires other { IfSome other (λ it. IsSmall most_offered it.value) }
+    ensures lower { held_cell result ≡ lower_cell (held_cell cell) other }
+    ensures held { IsHeld result.value }
 {
-    if is_lower(&other, &cell) {
-        return other;
-    }
-    cell
-}
-
-/// Whether there is a cell that is of lower value than another, or there is no other.
-fn is_lower(cell: &Option<Cell>, other: &Option<Cell>) -> bool
-    ensures { lower_cell other.now cell.now ≡ (if result then cell.now else other.now) }
-{
-    match (*cell, *other) {
-        (None, _) => false,
-        (Some(_), None) => true,
-        (Some(cell), Some(other)) => cell.value < other.value,
+    match other {
+        None => cell,
+        Some(other) => {
+            if other.value < cell.value {
+                other
+            } else {
+                cell
+            }
+        }
     }
 }
 

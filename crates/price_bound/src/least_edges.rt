@@ -3,20 +3,24 @@
 //! The edges of a link stand in order of the composition that they lead from: those of one composition are found
 //! together, and those of a composition that the trip may not have are passed over.
 
-ghost use Rattle.std.specs.Prelude.{ℕ, ◌≡◌, ◌<◌, ◌+◌, ◌↔◌, IfSome, IsTrue, None, Some, get_or, length, slice_get};
+ghost use Rattle.std.specs.Prelude.{ℕ, ◌≡◌, ◌<◌, ◌+◌, ◌↔◌, IfSome, IsTrue, None, Some, false, get_or};
+ghost use Rattle.std.specs.Prelude.{length, slice_get};
 ghost use Rattle.timetable.specs.Links.{outgoing};
 ghost use Rattle.transitions.specs.Edges.{AreGraphs, AreInOrder, IsEdge};
 ghost use Rattle.price_bound.specs.CellRows.{all_bare, comps_of, offered_from, row_on};
 ghost use Rattle.price_bound.specs.CellSizes.{AreSmallCells, IsSmall, IsSmallStep, most_ahead, most_edge_price};
 ghost use Rattle.price_bound.specs.CellSizes.{most_step};
 ghost use Rattle.price_bound.specs.ChainStages.{price_of, priced_cost_of};
-ghost use Rattle.price_bound.specs.EdgeGroups.{IsAtGroup, IsGroupPlace, IsInGroup};
+ghost use Rattle.price_bound.specs.EdgeGroups.{IsAtGroup, IsBelow, IsGroupPlace, IsInGroup, IsNotBelow};
+ghost use Rattle.price_bound.specs.EdgeGroups.{IsOfferPlace};
 ghost use Rattle.price_bound.specs.Paths.{offer_by, with_priced_cost};
 ghost use Rattle.price_bound.specs.Pricing.{IsListed, priced_by};
 ghost use Rattle.price_bound.specs.RowValues.{IsForEdges, IsStepOn, edge_cell, is_had, priced_on};
 ghost use Rattle.price_bound.specs.TripAndLinkPrices.{IsForTrip};
 
-use crate::cells::{Cell, CellRow, lower_cell, offer_by, value_of, with_priced_cost};
+use crate::cells::{
+    Cell, CellRow, NO_CELL, held_cell, lower_held, offer_by, value_of, with_priced_cost,
+};
 use crate::edge_prices::EdgePrices;
 use crate::priced_costs::PricedCosts;
 use crate::row_values::RowValues;
@@ -165,7 +169,7 @@ fn least_with_priced_cost<P: EdgePrices>(
             end: begin,
         };
     };
-    let first = first_from(edges, comp, begin);
+    let first = first_from(edges, comp, ahead.begin(), begin);
     let least = least_from(prices, edges, comp, first, ahead);
     Least {
         cell: with_priced_cost(Some(priced_cost), least.cell),
@@ -188,7 +192,7 @@ pub(crate) fn offered<P: EdgePrices>(
     requires small { AreSmallCells most_ahead ahead.now }
     ensures { result ≡ offered_from (P.priced prices.now) (Some (P.link prices.now)) ahead.now comp }
 {
-    let begin = halved_from(edges, comp);
+    let begin = halved_from(edges, comp, ahead.begin());
     least_from(prices, edges, comp, begin, ahead).cell
 }
 
@@ -204,22 +208,23 @@ fn least_from<P: EdgePrices>(
     requires graphs { AreGraphs (P.priced prices.now).day (P.priced prices.now).graphs }
     requires edges { slice_get (P.priced prices.now).graphs (P.link prices.now) ≡ Some edges.now }
     requires comp { comp < comps_of (P.priced prices.now) }
-    requires begin { IsGroupPlace edges.now comp begin }
+    requires begin { IsOfferPlace edges.now ahead.now comp begin }
     requires ahead { length ahead.now ≡ comps_of (P.priced prices.now) }
     requires small { AreSmallCells most_ahead ahead.now }
     ensures cell { result.cell ≡ offered_from (P.priced prices.now) (Some (P.link prices.now)) ahead.now comp }
     ensures small { (bound : ℕ) → AreSmallCells bound ahead.now
         → IfSome result.cell (λ cell. IsSmall (bound + most_edge_price) cell.value) }
 {
-    let mut least = None;
+    let mut least = NO_CELL;
     let mut place = begin;
-    while is_in_group(edges, comp, place) {
+    let end = ahead.end();
+    while is_in_group(edges, comp, end, place) {
         let offer = offer_at(prices, &edges[place], ahead);
-        least = lower_cell(least, offer);
+        least = lower_held(least, offer);
         place += 1;
     }
     Least {
-        cell: least,
+        cell: held_cell(least),
         end: place,
     }
 }
@@ -244,58 +249,58 @@ fn offer_at<P: EdgePrices>(prices: &P, edge: &Edge, ahead: &CellRow) -> Option<C
     offer_by(edge.to, price, cell)
 }
 
-/// Whether the edge at a place is there and leads from this composition.
-fn is_in_group(edges: &[Edge], comp: CompNo, place: usize) -> bool
-    ensures { IsTrue result ↔ IsInGroup edges.now comp place }
+/// Whether the edge at a place is there and leads from this composition to one below an end.
+fn is_in_group(edges: &[Edge], comp: CompNo, end: usize, place: usize) -> bool
+    ensures { IsTrue result ↔ IsInGroup edges.now comp end place }
 {
     if place >= edges.len() {
         return false;
     }
-    let from = edges[place].from;
-    from.0 == comp.0
+    let edge = &edges[place];
+    edge.from.0 == comp.0 && edge.to.place() < end
 }
 
-/// The place of the first edge that leads from no lower composition than this. It is looked for at a place first.
-fn first_from(edges: &[Edge], comp: CompNo, hint: usize) -> usize
+/// The place of the first edge that is not below those from a composition to another and on. It is looked for at a
+/// place first.
+fn first_from(edges: &[Edge], comp: CompNo, to: usize, hint: usize) -> usize
     requires { AreInOrder edges.now }
-    ensures { IsGroupPlace edges.now comp result }
+    ensures { IsGroupPlace edges.now comp to result }
 {
-    if begins_at(edges, comp, hint) {
+    if begins_at(edges, comp, to, hint) {
         return hint;
     }
-    halved_from(edges, comp)
+    halved_from(edges, comp, to)
 }
 
-/// Whether the edge at a place is there and leads from no lower composition than this, and the edge before it, if there
-/// is one, from a lower one.
-fn begins_at(edges: &[Edge], comp: CompNo, place: usize) -> bool
-    ensures { IsTrue result → IsAtGroup edges.now comp place }
+/// Whether the edge at a place is there and not below those from a composition to another and on, and the edge before
+/// it, if there is one, is.
+fn begins_at(edges: &[Edge], comp: CompNo, to: usize, place: usize) -> bool
+    ensures { IsTrue result → IsAtGroup edges.now comp to place }
 {
-    if place >= edges.len() {
+    if place >= edges.len() || is_below(&edges[place], comp, to) {
         return false;
     }
-    let from = edges[place].from;
-    if from.0 < comp.0 {
-        return false;
-    }
-    if place == 0 {
-        return true;
-    }
-    let before = edges[place - 1].from;
-    before.0 < comp.0
+    place == 0 || is_below(&edges[place - 1], comp, to)
 }
 
-/// The place of the first edge that leads from no lower composition than this, by halving.
-fn halved_from(edges: &[Edge], comp: CompNo) -> usize
+/// Whether an edge leads from a lower composition than this, or from this to a lower one than another.
+fn is_below(edge: &Edge, comp: CompNo, to: usize) -> bool
+    ensures below { IsTrue result → IsBelow edge.now comp to }
+    ensures not_below { result ≡ false → IsNotBelow edge.now comp to }
+{
+    edge.from.0 < comp.0 || (edge.from.0 == comp.0 && edge.to.place() < to)
+}
+
+/// The place of the first edge that is not below those from a composition to another and on, by halving.
+fn halved_from(edges: &[Edge], comp: CompNo, to: usize) -> usize
     requires { AreInOrder edges.now }
-    ensures { IsGroupPlace edges.now comp result }
+    ensures { IsGroupPlace edges.now comp to result }
 {
     let mut low = 0;
     let mut high = edges.len();
     while low < high {
-        let middle = low + (high - low) / 2;
-        let from = edges[middle].from;
-        if from.0 < comp.0 {
+        let middle = (low + high) / 2;
+        if is_below(&edges[middle], comp, to) {
             low = middle + 1;
         } else {
             high = middle;

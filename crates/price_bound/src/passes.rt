@@ -287,7 +287,7 @@ impl<'a> Passes<'a> {
 }
 
 /// Puts no value.
-pub(crate) fn clear(values: &mut [i64])
+fn clear(values: &mut [i64])
     ensures long { length values.new ≡ length values.old }
     ensures none { (place : ℕ) → place < length values.old → value_at values.new place ≡ no_value }
 {

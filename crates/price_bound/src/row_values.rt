@@ -6,17 +6,27 @@
 ghost use Rattle.std.specs.Prelude.{ℕ, ◌≡◌, ◌<◌, ◌≤◌, ◌+◌, ◌*◌, ◌/◌, ◌%◌, ◌^◌, ◌==◌, Bool, None, Option, length, true};
 ghost use Rattle.std.specs.Prelude.{IsTrue, slice_index};
 ghost use Rattle.price_bound.specs.declared.cells.Cell.{Cell};
-ghost use Rattle.price_bound.specs.CellRows.{IsHeld, bare, cell_in, comps_of};
-ghost use Rattle.price_bound.specs.RowValues.{AreFilled, HaveNone, IsOneStepAt, TellsAll, TellsMembers, end_cell};
+ghost use Rattle.price_bound.specs.CellRows.{AreWithin, IsHeld, bare, cell_in, comps_of};
+ghost use Rattle.price_bound.specs.HeldValues.{no_value};
+ghost use Rattle.price_bound.specs.PassValues.{value_at};
+ghost use Rattle.price_bound.specs.RowValues.{AreFilled, AreMembersIn, HaveNone, IsOneStepAt, TellsAll, TellsMembers, end_cell};
 ghost use Rattle.price_bound.specs.RowValues.{is_had, priced_on};
 ghost use Rattle.price_bound.specs.TripAndLinkPrices.{IsForTrip};
 
-use crate::cells::{Cell, value_of, with_priced_cost};
-use crate::passes::clear;
+use crate::cells::{Cell, NO_VALUE, value_of, with_priced_cost};
 use crate::priced_costs::PricedCosts;
 use branch_tree::sets::WORD_BITS;
 use rail_base::CompNo;
 use rail_base::limits::MAX_COMPOSITIONS;
+
+/// The compositions from one on and before another.
+#[derive(Clone, Copy)]
+pub(crate) struct CompRange {
+    /// The first of them, if there are any.
+    pub begin: usize,
+    /// The first that comes after them.
+    pub end: usize,
+}
 
 /// What stands in the row of a trip.
 pub(crate) trait RowValues {
@@ -74,8 +84,14 @@ impl<'a> RowValues for EndValues<'a> {
     }
 }
 
-/// Puts into a row what stands there for the members of a set, of which these are the words.
-pub(crate) fn put_row<V: RowValues>(values: &V, words: &[u64], row: &mut [i64])
+/// Puts into a row what stands there for the members of a set, of which these are the words, where none but those of a
+/// range had a value. It tells the range of the members.
+pub(crate) fn put_row<V: RowValues>(
+    values: &V,
+    words: &[u64],
+    before: CompRange,
+    row: &mut [i64],
+) -> CompRange
     requires are { V.are_of_trip values.now }
     requires bits { (comp : ℕ) → V.member values.now comp
         ≡ (slice_index words.now (comp / WORD_BITS) / 2 ^ (comp % WORD_BITS) % 2 == 1) }
@@ -84,16 +100,58 @@ pub(crate) fn put_row<V: RowValues>(values: &V, words: &[u64], row: &mut [i64])
     requires few { V.IsFew values.now None }
     requires most { V.comps values.now ≤ MAX_COMPOSITIONS }
     requires row { length row.old ≡ V.comps values.now }
-    ensures { AreFilled (V.comps values.now) (V.cell values.now) (V.IsFew values.now) (V.comps values.now) row.new }
+    requires before { AreWithin before row.old }
+    ensures filled { AreFilled (V.comps values.now) (V.cell values.now) (V.IsFew values.now) (V.comps values.now)
+        row.new }
+    ensures within { AreWithin result row.new }
 {
     if has_all(words, row.len()) {
         put_all(values, row);
-        return;
+        return CompRange {
+            begin: 0,
+            end: row.len(),
+        };
     }
-    clear(row);
+    clear_range(row, before);
+    let mut range = CompRange {
+        begin: row.len(),
+        end: 0,
+    };
     let used = words.len().min(row.len() / WORD_BITS + 1);
     for place in 0..used {
         put_word(values, words[place], (place * WORD_BITS) as u32, row);
+        range = with_word(range, words[place], place * WORD_BITS);
+    }
+    CompRange {
+        begin: range.begin,
+        end: range.end.min(row.len()),
+    }
+}
+
+/// Takes the values of a range out of a row.
+pub(crate) fn clear_range(row: &mut [i64], range: CompRange)
+    requires { AreWithin range row.old }
+    ensures long { length row.new ≡ length row.old }
+    ensures none { (comp : ℕ) → comp < length row.old → value_at row.new comp ≡ no_value }
+{
+    for comp in range.begin..range.end {
+        row[comp] = NO_VALUE;
+    }
+}
+
+/// A range that has the members besides that a word tells of, from a composition on.
+fn with_word(range: CompRange, word: u64, begin: usize) -> CompRange
+    requires begin { begin ≤ MAX_COMPOSITIONS }
+    ensures begin { result.begin ≤ range.begin }
+    ensures members { (member : ℕ → Bool) → AreMembersIn range member begin → TellsMembers member begin word
+        → AreMembersIn result member (begin + WORD_BITS) }
+{
+    if word == 0 {
+        return range;
+    }
+    CompRange {
+        begin: range.begin.min(begin + word.trailing_zeros() as usize),
+        end: begin + WORD_BITS - word.leading_zeros() as usize,
     }
 }
 

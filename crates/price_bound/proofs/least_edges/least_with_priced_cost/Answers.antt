@@ -4,8 +4,12 @@ use Rattle.std.specs.Prelude.{is_none}
 use Rattle.timetable.specs.Links.{outgoing}
 use Rattle.price_bound.specs.CellSizes.{IsSmall, most_priced_cost}
 use Rattle.price_bound.specs.ChainStages.{Priced}
-use Rattle.price_bound.proofs.EdgeGroups.{some_more, priced_cost_step}
+use Rattle.price_bound.proofs.EdgeGroups.{offer_place, priced_cost_step, some_more}
 use Rattle.price_bound.proofs.least_edges.least_with_priced_cost.Goals as goal
+
+pub least_from-least-requires-clause-begin : goal.least_from-least-requires-clause-begin
+least_from-least-requires-clause-begin g c =
+    offer_place c.args.edges.now c.args.ahead.now c.args.comp c.begin.result c.first_from-first.result c.begin.ensures c.first_from-first.ensures
 
 pub with_priced_cost-requires-clause-cell : goal.with_priced_cost-requires-clause-cell
 with_priced_cost-requires-clause-cell g c =
