@@ -2,7 +2,7 @@
 use Rattle.std.proofs.Common.{◌≡◌, ◌≢◌, ℕ, suc, ◌+◌, ◌-◌, ◌*◌, ◌/◌, ◌%◌, ◌^◌, ◌<◌, ◌≤◌, ◌⊎◌, List, length, get_or, set, length-set, Bool, false, Option, None}
 use Rattle.std.proofs.Common.{ℤ, pos, sym, ap, ◌∙◌, subst, arith, inl, inr, eqb, map, min, w64}
 use Rattle.std.proofs.lemmas.Bool.{cases_eq, cases_lt}
-use Rattle.std.proofs.lemmas.Nat.{leading_length}
+use Rattle.std.proofs.lemmas.Nat.{leading_le, leading_length}
 use Rattle.std.proofs.lemmas.Nat.Bits.{bit_at_above, bit_at-trailing_zeros}
 use Rattle.std.specs.Int.{leading_zeros, trailing_zeros}
 use Rattle.std.proofs.lemmas.List.{get_or-map, get_or-set_other, get_or-set_same, length-map}
@@ -158,37 +158,39 @@ bit_tells member begin word comp left tells from to is =
 
 -- ---- the range of the members
 
--- no bit of a word below a lowest one, or from an end on, tells of a member
-pub members_with : (range : CompRange) (from to : ℕ) (member : ℕ → Bool) (word begin lowest end : ℕ) → from ≤ range.begin → from ≤ begin + lowest
-    → begin + end ≤ to → ((bit : ℕ) → bit < lowest → word / 2 ^ bit % 2 ≡ 0) → ((bit : ℕ) → end ≤ bit → word / 2 ^ bit % 2 ≡ 0)
-    → AreMembersIn range member begin → TellsMembers member begin word → (k : ℕ) → k < begin + 64 → (k < from) ⊎ (to ≤ k) → member k ≡ false
-members_with range from to member word begin lowest end under first last low high done tells k lt outside = elim (cases_lt k begin) [
-  | inl before ↦ elim outside [
-    | inl less ↦ done k before (inl (omega (arith, less, under)))
-    | inr past ↦ absurd (omega (arith, before, past, last))
-  ]
-  | inr here ↦ elim outside [
-    | inl less ↦ told here (low (k - begin) (omega (arith, here, less, first)))
-    | inr past ↦ told here (high (k - begin) (omega (arith, here, past, last)))
-  ]
-]
+-- a word tells of no member below its lowest bit, nor above its highest
+pub word_outside : (member : ℕ → Bool) (word begin : ℕ) → 0 < word → word < 2 ^ 64 → TellsMembers member begin word
+    → (k : ℕ) → begin ≤ k → k < begin + 64
+    → (k < begin + trailing_zeros w64 word) ⊎ (begin + 64 - leading_zeros w64 word ≤ k) → member k ≡ false
+word_outside member word begin some fits tells k from lt outside =
+    let low : (bit : ℕ) → bit < trailing_zeros w64 word → word / 2 ^ bit % 2 ≡ 0 = (bit_at-trailing_zeros w64 word some fits).2 in
+    let top : (m : ℕ) × (leading_zeros w64 word + m ≡ 64) × (word < 2 ^ m) × (2 ^ m ≤ 2 * word + 1) = leading_length 64 word fits in
+    let sum : leading_zeros w64 word + top.0 ≡ 64 = top.1 in
+    elim outside [
+      | inl less ↦ told (low (k - begin) (omega (arith, from, less)))
+      | inr past ↦ told (bit_at_above word top.0 (k - begin) top.2 (omega (arith, past, sum)))
+    ]
   where
-    told : begin ≤ k → word / 2 ^ (k - begin) % 2 ≡ 0 → member k ≡ false
-    told here none =
-        let place : begin + (k - begin) ≡ k = omega (arith, here) in
-        ap member (sym place) ∙ tells (k - begin) (omega (arith, here, lt)) ∙ ap (λ (bit : ℕ). eqb bit 1) none
+    told : word / 2 ^ (k - begin) % 2 ≡ 0 → member k ≡ false
+    told none =
+        let place : begin + (k - begin) ≡ k = omega (arith, from) in
+        ap member (sym place) ∙ tells (k - begin) (omega (arith, from, lt)) ∙ ap (λ (bit : ℕ). eqb bit 1) none
 
--- the lowest bit and the highest one of a word bound its members
+-- so its lowest bit and its highest one bound the members
 pub members_in_word : (range : CompRange) (from to : ℕ) (member : ℕ → Bool) (word begin : ℕ) → 0 < word → word < 2 ^ 64
     → from ≡ min range.begin (begin + trailing_zeros w64 word) → to ≡ begin + 64 - leading_zeros w64 word
     → AreMembersIn range member begin → TellsMembers member begin word
     → (k : ℕ) → k < begin + 64 → (k < from) ⊎ (to ≤ k) → member k ≡ false
-members_in_word range from to member word begin some fits first last done tells =
-    let low : (bit : ℕ) → bit < trailing_zeros w64 word → word / 2 ^ bit % 2 ≡ 0 = (bit_at-trailing_zeros w64 word some fits).2 in
-    let top : (m : ℕ) × (leading_zeros w64 word + m ≡ 64) × (word < 2 ^ m) × (2 ^ m ≤ 2 * word + 1) = leading_length 64 word fits in
-    let sum : leading_zeros w64 word + top.0 ≡ 64 = top.1 in
-    members_with range from to member word begin (trailing_zeros w64 word) top.0 (omega (arith, first)) (omega (arith, first))
-    (omega (arith, last, sum)) low (λ bit past. bit_at_above word top.0 bit top.2 past) done tells
+members_in_word range from to member word begin some fits first last done tells k lt outside = elim (cases_lt k begin) [
+  | inl before ↦ elim outside [
+    | inl less ↦ done k before (inl (omega (arith, less, first)))
+    | inr past ↦ absurd (omega (arith, before, past, last, leading_le 64 word))
+  ]
+  | inr here ↦ elim outside [
+    | inl less ↦ word_outside member word begin some fits tells k here lt (inl (omega (arith, less, first)))
+    | inr past ↦ word_outside member word begin some fits tells k here lt (inr (omega (arith, past, last)))
+  ]
+]
 
 -- the bits of words tell of the members, word by word
 pub word_tells : (member : ℕ → Bool) (words : List ℕ) (place : ℕ)

@@ -197,6 +197,7 @@ pub(crate) fn offered<P: EdgePrices>(
 }
 
 /// The first cell of least value among those of the edges from a composition, which begin at a place.
+#[inline(always)]
 fn least_from<P: EdgePrices>(
     prices: &P,
     edges: &[Edge],

@@ -211,9 +211,10 @@ fn put_word<V: RowValues>(values: &V, word: u64, begin: u32, row: &mut [i64])
     if word == 0 {
         return;
     }
-    let end = (begin as usize + WORD_BITS).min(row.len()) as u32;
-    let mut left = word;
-    for comp in begin..end {
+    let lowest = word.trailing_zeros();
+    let end = (begin as usize + WORD_BITS - word.leading_zeros() as usize).min(row.len()) as u32;
+    let mut left = word >> lowest;
+    for comp in begin + lowest..end {
         if left % 2 == 1 {
             row[comp as usize] = values.value(CompNo(comp));
         }
