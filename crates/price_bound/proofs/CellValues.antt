@@ -6,8 +6,7 @@ use Rattle.std.proofs.lemmas.Bool.{cases_eq, cases_lt}
 use Rattle.std.proofs.lemmas.Int.{ints}
 use Rattle.std.proofs.lemmas.List.{ext_get_or, get_or-drop, get_or-map, get_or_past, get_or-set_other, get_or-set_same, length-map, map-set}
 use Rattle.price_bound.specs.declared.cells.Cell.{Cell}
-use Rattle.price_bound.specs.CellRows.{IsHeld, cell_in, held_cell}
-use Rattle.price_bound.specs.CellSizes.{IsSmall}
+use Rattle.price_bound.specs.CellRows.{IsHeld, cell_in}
 use Rattle.price_bound.specs.Paths.{entered, least_from, lower_cell}
 
 abbrev pub no_value : ℤ

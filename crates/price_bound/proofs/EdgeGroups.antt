@@ -2,7 +2,7 @@
 -- that are made of what each composition is offered.
 use Rattle.std.proofs.Common.{◌≡◌, ◌≢◌, ℕ, zero, suc, ◌+◌, ◌-◌, ◌<◌, ◌≤◌, List, [], ◌∷◌, length, get_or, set, take, replicate}
 use Rattle.std.proofs.Common.{Option, Some, None, ℤ, refl, sym, ap, ◌∙◌, subst, arith, inl, inr, slice_get, length-set, unwrap_or, ◌⊎◌, pos}
-use Rattle.std.specs.Prelude.{Bool, fold, IfSome, option_map}
+use Rattle.std.specs.Prelude.{fold, IfSome}
 use Rattle.std.proofs.lemmas.Bool.{cases_eq, cases_lt}
 use Rattle.std.proofs.lemmas.List.{ext_get_or, get_or_default, get_or-replicate, get_or-set_same, get_or-set_other}
 use Rattle.std.proofs.lemmas.List.{get_or_past, length-map, length-replicate, take_all}
@@ -10,15 +10,13 @@ use Rattle.timetable.specs.Links.{outgoing}
 use Rattle.transitions.specs.declared.edge.Edge.{Edge}
 use Rattle.transitions.specs.Edges.{AreGraphs, AreInOrder, IsBefore}
 use Rattle.price_bound.specs.declared.cells.Cell.{Cell}
-use Rattle.price_bound.specs.declared.priced_costs.Amount.{Amount}
 use Rattle.price_bound.specs.CellRows.{all_bare, bare, comps_of, edges_offered, last_row_on, offered_from, row_on}
-use Rattle.price_bound.specs.CellSizes.{AreSmallCells, IsSmall, most_priced_cost}
+use Rattle.price_bound.specs.CellSizes.{AreSmallCells, IsSmall}
 use Rattle.price_bound.specs.ChainStages.{Priced, edges_of, price_of, stage_of, priced_cost_of}
 use Rattle.price_bound.specs.EdgeGroups.{IsAtGroup, IsBelow, IsGroupPlace, IsInGroup, IsNotBelow, IsOfferPlace}
 use Rattle.price_bound.specs.Paths.{Stage, lower_cell, offer_by, with_priced_cost, with_priced_costs}
-use Rattle.price_bound.proofs.Adding.{small_more, small_zero}
+use Rattle.price_bound.proofs.Adding.{small_more}
 use Rattle.price_bound.proofs.ChainCells.{fold_more, get-bare, length-offered, lower_small, nothing_ahead, offered_at, some_small, with_priced_cost_small}
-use Rattle.price_bound.proofs.ChainCells.{priced_cost_at, priced_cost_few}
 use Rattle.price_bound.proofs.Rows.{get-with_priced_costs}
 
 -- ---- where the edges from a composition begin

@@ -13,7 +13,7 @@ use Rattle.price_bound.specs.declared.row_values.CompRange.{CompRange}
 use Rattle.price_bound.specs.CellRows.{AreWithin, IsHeld, bare, cell_in}
 use Rattle.price_bound.specs.HeldValues.{no_value}
 use Rattle.price_bound.specs.PassValues.{value_at}
-use Rattle.price_bound.specs.RowValues.{AreFilled, AreMembersIn, HasCells, HaveNone, TellsAll, TellsMembers}
+use Rattle.price_bound.specs.RowValues.{AreFilled, AreMembersIn, HasCells, HaveNone, TellsMembers}
 use Rattle.price_bound.proofs.CellValues.{none_is}
 
 module _ (n : ℕ) (cell : ℕ → Option Cell) (IsFew : Option Cell → Type 0) where

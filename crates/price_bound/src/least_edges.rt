@@ -197,7 +197,6 @@ pub(crate) fn offered<P: EdgePrices>(
 }
 
 /// The first cell of least value among those of the edges from a composition, which begin at a place.
-#[inline(always)]
 fn least_from<P: EdgePrices>(
     prices: &P,
     edges: &[Edge],

@@ -1,5 +1,5 @@
 -- The half that is left out lies on one side.
-use Rattle.std.proofs.Common.{◌≡◌, ◌<◌, ◌≤◌, ◌+◌, ◌/◌, ℕ, length, get_or, subst, arith}
+use Rattle.std.proofs.Common.{◌≡◌, ◌<◌, ◌+◌, ◌/◌, ℕ, length, get_or, subst, arith}
 use Rattle.transitions.specs.declared.edge.Edge.{Edge}
 use Rattle.price_bound.specs.EdgeGroups.{IsBelow, IsNotBelow}
 use Rattle.price_bound.proofs.EdgeGroups.{all_below, none_below}

@@ -1,7 +1,6 @@
 -- One word more is gone through.
-use Rattle.std.proofs.Common.{◌≡◌, ◌<◌, ◌+◌, ◌*◌, ℕ, Bool, Option, subst, arith}
+use Rattle.std.proofs.Common.{◌≡◌, ◌+◌, ◌*◌, ℕ, Bool, subst, arith}
 use Rattle.std.specs.Prelude.{slice_index}
-use Rattle.price_bound.specs.declared.cells.Cell.{Cell}
 use Rattle.price_bound.specs.RowValues.{AreFilled, AreMembersIn, TellsMembers}
 use Rattle.price_bound.proofs.RowValues.{word_tells}
 use Rattle.price_bound.proofs.row_values.put_row.Goals as goal

@@ -1,5 +1,5 @@
 -- No composition outside of the range has a cell.
-use Rattle.std.proofs.Common.{◌≡◌, ℕ, ◌<◌, ◌≤◌, get_or, None, sym, ◌∙◌, arith, inr, refl}
+use Rattle.std.proofs.Common.{None, sym, ◌∙◌, arith, inr, refl}
 use Rattle.price_bound.specs.CellRows.{held_cell}
 use Rattle.price_bound.proofs.CellValues.{least_past, least_rest, no_cell}
 use Rattle.price_bound.proofs.cells.CellRow.least.Goals as goal
