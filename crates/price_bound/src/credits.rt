@@ -29,7 +29,7 @@ use std::alloc::Global;
 use timetable::Instance;
 
 /// A region has few compositions for a trip where so many times as many are fewer than there are.
-const FEW: u32 = 8;
+const FEW: usize = 8;
 
 /// What a unit of each type costs, where a trip gives it and where the trip takes it.
 #[derive(Drop)]
@@ -128,12 +128,11 @@ impl UnitSums {
             gives: tables.gives.row(row).items(),
             takes: tables.takes.row(row).items(),
         };
-        let kept = asked_for(instance, region, trip);
+        let kept = asked_for(instance, region, trip, trains.fronts.len());
         self.kept[row] = kept;
         match kept {
             Kept::Members => self.put_members(instance, region.set(trip), trip, &prices),
-            Kept::Whole => self.put_all(instance, trains, trip, &prices),
-            Kept::Many => self.put_all(instance, trains, trip, &prices),
+            _ => self.put_all(instance, trains, trip, &prices),
         }
     }
 
@@ -229,12 +228,11 @@ impl UnitSums {
     }
 }
 
-/// For which compositions the sums of a trip are asked for.
-fn asked_for(instance: &Instance, region: &Region, trip: TripNo) -> Kept
+/// For which of so many compositions the sums of a trip are asked for.
+fn asked_for(instance: &Instance, region: &Region, trip: TripNo, comps: usize) -> Kept
     requires region { length region.now ≡ length instance.now.trips }
     requires trip { trip < length instance.now.trips }
 {
-    let comps = instance.catalogue().len();
     if has_many(region.set(trip), comps) {
         return Kept::Many;
     }
@@ -249,16 +247,16 @@ fn asked_for(instance: &Instance, region: &Region, trip: TripNo) -> Kept
 }
 
 /// Whether a set has many of so many compositions. That it has so many of the first ones is seen at once.
-fn has_many(set: &CompositionSet, comps: u32) -> bool {
+fn has_many(set: &CompositionSet, comps: usize) -> bool {
     let words = set.words();
     let many = comps / FEW + 1;
-    if words[0].trailing_ones() >= many {
+    if words[0].trailing_ones() as usize >= many {
         return true;
     }
-    let used = words.len().min(comps as usize / WORD_BITS + 1);
+    let used = words.len().min(comps / WORD_BITS + 1);
     let mut left = many;
     for place in 0..used {
-        let ones = words[place].count_ones();
+        let ones = words[place].count_ones() as usize;
         if left <= ones {
             return true;
         }
