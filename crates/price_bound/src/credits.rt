@@ -43,11 +43,10 @@ pub(crate) struct UnitPrices<'a> {
 /// The prices of compositions' units.
 #[derive(Drop)]
 pub(crate) struct UnitSums {
-    /// For each trip and composition the price of the composition's units, where the trip gives them, and one for no
-    /// units.
+    /// For each trip and composition for which the trip has them, the price of the composition's units, where the trip
+    /// gives them; and a place for no units.
     pub credits: AmountTable,
-    /// For each trip and composition the price of the composition's units, where the trip takes them, and one for no
-    /// units.
+    /// The same, where the trip takes them.
     pub debits: AmountTable,
     /// For which compositions each trip has them.
     pub kept: Vec<Kept>,
