@@ -13,8 +13,8 @@ ghost use Rattle.branch_tree.specs.Sets.{is_member};
 ghost use Rattle.price_bound.specs.declared.credits.UnitSums.{UnitSums};
 ghost use Rattle.price_bound.specs.CellSizes.{IsSmall, most_units_price};
 ghost use Rattle.price_bound.specs.CompositionTrees.{AreEach, AreTrains, IsLast, IsRest};
-ghost use Rattle.price_bound.specs.Credits.{AreAllByType, AreByType, AreMembersPut, AreSumsBefore, AreSumsOf, AreSumsPut};
-ghost use Rattle.price_bound.specs.Credits.{AreTripSums, HaveSumRoom, IsTripPut, is_whole, sum_in};
+ghost use Rattle.price_bound.specs.Credits.{AreAllByType, AreByType, AreMembersPut, AreSumsBefore, AreSumsOf};
+ghost use Rattle.price_bound.specs.Credits.{AreSumsPut, AreTripSums, HaveSumRoom, IsTripPut, is_whole, sum_in};
 
 use crate::amounts::AmountTable;
 use crate::passes::{place_at, value_at};
@@ -119,8 +119,8 @@ impl UnitSums {
         requires region { length region.now ≡ length instance.now.trips }
         requires trip { trip < length instance.now.trips }
         requires room { HaveSumRoom instance.now self.old }
-        ensures { IsTripPut instance.now region.now (get_or tables.now.gives trip []) (get_or tables.now.takes trip []) trip
-            self.old self.new }
+        ensures { IsTripPut instance.now region.now (get_or tables.now.gives trip [])
+            (get_or tables.now.takes trip []) trip self.old self.new }
     {
         let row = trip.place();
         let prices = UnitPrices {
@@ -264,8 +264,8 @@ fn has_many(set: &CompositionSet, comps: usize) -> bool {
     false
 }
 
-/// Puts the credits and the debits of each trip: the sums of what the trip gives and takes units of a composition's types
-/// for, of those compositions for which they are asked in a region. It takes no memory.
+/// Puts the credits and the debits of each trip: the sums of what the trip gives and takes units of a composition's
+/// types for, of those compositions for which they are asked in a region. It takes no memory.
 pub(crate) fn fill_sums(
     instance: &Instance,
     trains: &Trains,
@@ -278,7 +278,8 @@ pub(crate) fn fill_sums(
     requires takes { AreAllByType instance.now tables.now.takes }
     requires region { length region.now ≡ length instance.now.trips }
     requires room { HaveSumRoom instance.now sums.old }
-    ensures { AreTripSums instance.now region.now tables.now.gives tables.now.takes (length instance.now.trips) sums.new }
+    ensures { AreTripSums instance.now region.now tables.now.gives tables.now.takes (length instance.now.trips)
+        sums.new }
 {
     for trip in 0..instance.trips() {
         sums.put_trip(instance, trains, tables, region, TripNo(trip));
