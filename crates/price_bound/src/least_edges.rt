@@ -1,7 +1,8 @@
 //! The cells of a trip, composition by composition, from the edges that lead on from each.
 //!
 //! The edges of a link stand in order of the composition that they lead from: those of one composition are found
-//! together, and those of a composition that the trip may not have are passed over.
+//! together, and those of a composition that the trip may not have are passed over. Those of one composition stand in
+//! order of the one that they lead to: those outside of the range that has cells ahead are not gone through.
 
 ghost use Rattle.std.specs.Prelude.{ℕ, ◌≡◌, ◌<◌, ◌+◌, ◌↔◌, IfSome, IsTrue, None, Some, false, get_or};
 ghost use Rattle.std.specs.Prelude.{length, slice_get};

@@ -1,7 +1,8 @@
 //! Rows that are made by the members of a set: no other composition has a cell.
 //!
 //! A word of the set tells of 64 compositions at once whether they are members: words without members are passed over,
-//! and no bit is looked at where all compositions are members.
+//! and no bit is looked at where all compositions are members. The lowest member and the highest one bound the range
+//! that is cleared when the row is made anew.
 
 ghost use Rattle.std.specs.Prelude.{ℕ, ◌≡◌, ◌<◌, ◌≤◌, ◌+◌, ◌*◌, ◌/◌, ◌%◌, ◌^◌, ◌==◌, Bool, None, Option, length, true};
 ghost use Rattle.std.specs.Prelude.{IsTrue, slice_index};
