@@ -1,22 +1,23 @@
 -- Sums over the units of compositions, by those over the units of lower ones.
 use Rattle.std.proofs.Common.{◌≡◌, ℕ, zero, suc, ◌+◌, ◌*◌, ◌<◌, ◌⊎◌, List, [], ◌∷◌, ◌++◌, length, take, set, get_or, sym, ap, ◌∙◌}
-use Rattle.std.proofs.Common.{subst, arith, ℤ, pos, ◌+ℤ◌, inl, inr, length-append, length-set, slice_get, Some}
+use Rattle.std.proofs.Common.{subst, arith, ℤ, pos, ◌+ℤ◌, inl, inr, length-append, length-set, map, slice_get, Some}
 use Rattle.std.proofs.lemmas.Bool.{cases_eq}
 use Rattle.std.proofs.lemmas.Int.{ints}
-use Rattle.std.proofs.lemmas.List.{get_or-set_other, get_or-set_same}
+use Rattle.std.proofs.lemmas.List.{get_or-set_other, get_or-set_same, length-map}
 use Rattle.std.proofs.lemmas.List.Elements.{All-get_or}
 use Rattle.std.proofs.Math.Seq.{get_or-append_seam}
+use Rattle.inventory.proofs.Holds.{zero_entry}
 use Rattle.rules.specs.declared.records.End.TheVariants as at
 use Rattle.timetable.specs.Compositions.{compositions_of, composition_at}
 use Rattle.timetable.specs.Day.{Day}
 use Rattle.transitions.proofs.Listed.{few_units}
 use Rattle.price_bound.specs.CellSizes.{IsSmall, most_price, most_units_price}
 use Rattle.price_bound.specs.CompositionTrees.{IsLast, IsRest}
-use Rattle.price_bound.specs.Credits.{AreSmallAmounts, AreSumsBefore, sum_in}
+use Rattle.price_bound.specs.Credits.{AreSmallAmounts, AreSumsBefore, AreSumsOf, IsFree, sum_in}
 use Rattle.price_bound.proofs.Adding.{small_more, small_zero, sum_small}
 use Rattle.price_bound.proofs.CompositionTrees.{fewer_lower, number_past}
 use Rattle.price_bound.proofs.Crediting.{known}
-use Rattle.price_bound.proofs.IntLaws.{sum_append}
+use Rattle.price_bound.proofs.IntLaws.{sum_append, sum_none}
 use Rattle.price_bound.proofs.Resting.{number_is}
 
 -- ---- what a composition is made of
@@ -115,6 +116,18 @@ sums_begin day row sums long = record {
     small = λ c before. absurd (omega (arith, before));
   };
 }
+
+-- where units of no type cost anything, all sums are 0
+pub free_sums : (day : Day) (amounts row new : List ℤ) → length row ≡ suc (length (compositions_of day)) → IsFree amounts
+    → new ≡ map (λ _. pos 0) row → AreSumsOf day amounts new
+free_sums day amounts row new long free is =
+    subst (AreSumsOf day amounts) (sym is) (record {
+      long = length-map row (λ _. pos 0) ∙ long;
+      sums = record {
+        values = λ c listed. zero_entry row c ∙ sym (sum_none (λ m. get_or amounts m (pos 0)) (composition_at day c) free);
+        small = λ c listed. subst (IsSmall most_units_price) (sym (zero_entry row c)) (small_zero most_units_price);
+      };
+    })
 
 -- one sum more
 pub sums_more : (day : Day) (row sums : List ℤ) (comp : ℕ) (sum : ℤ) → comp < length (compositions_of day) → AreSumsBefore day row comp sums

@@ -25,6 +25,10 @@ sum_in row types = int_sum (λ m. get_or row m (pos 0)) types
 abbrev pub AreSmallAmounts : List ℤ → Type 0
 AreSmallAmounts row = (m : ℕ) → m < length row → IsSmall most_price (get_or row m (pos 0))
 
+-- units of no type cost anything
+abbrev pub IsFree : List ℤ → Type 0
+IsFree row = (m : ℕ) → get_or row m (pos 0) ≡ pos 0
+
 -- there is an amount for each type, and all are small
 pub record AreByType (day : Day) (amounts : List ℤ) : Type 0 where
   pub sized : length amounts ≡ length day.types

@@ -120,6 +120,11 @@ impl AmountRow {
         ensures sums { AreSumsOf instance.now prices.now.gives.now self.new }
         ensures taken { AreSumsOf instance.now prices.now.takes.now taken.new }
     {
+        if prices.are_free() {
+            self.clear();
+            taken.clear();
+            return;
+        }
         put_sums(
             instance,
             &trains.fronts,

@@ -14,7 +14,8 @@ ghost use Rattle.price_bound.specs.declared.credits.UnitSums.{UnitSums};
 ghost use Rattle.price_bound.specs.CellSizes.{IsSmall, most_units_price};
 ghost use Rattle.price_bound.specs.CompositionTrees.{AreEach, AreTrains, IsLast, IsRest};
 ghost use Rattle.price_bound.specs.Credits.{AreAllByType, AreByType, AreMembersPut, AreSumsBefore, AreSumsOf};
-ghost use Rattle.price_bound.specs.Credits.{AreSumsPut, AreTripSums, HaveSumRoom, IsTripPut, is_whole, sum_in};
+ghost use Rattle.price_bound.specs.Credits.{AreSumsPut, AreTripSums, HaveSumRoom, IsFree, IsTripPut, is_whole};
+ghost use Rattle.price_bound.specs.Credits.{sum_in};
 
 use crate::amounts::AmountTable;
 use crate::passes::{place_at, value_at};
@@ -28,7 +29,7 @@ use rail_base::{CompNo, NoMemory, TripNo, TypeNo};
 use std::alloc::Global;
 use timetable::Instance;
 
-/// A region has few compositions for a trip where so many times as many are fewer than there are.
+/// A region has few compositions for a trip where so many times their number is less than that of all compositions.
 const FEW: usize = 8;
 
 /// What a unit of each type costs, where a trip gives it and where the trip takes it.
@@ -38,6 +39,28 @@ pub(crate) struct UnitPrices<'a> {
     pub gives: &'a [i64],
     /// Where the trip takes it.
     pub takes: &'a [i64],
+}
+
+impl<'a> UnitPrices<'a> {
+    /// True only where units of no type cost anything, where the trip gives them and where it takes them.
+    pub(crate) fn are_free(&self) -> bool
+        ensures gives { IsTrue result → IsFree self.now.gives.now }
+        ensures takes { IsTrue result → IsFree self.now.takes.now }
+    {
+        is_free(self.gives) && is_free(self.takes)
+    }
+}
+
+/// True only where units of no type cost anything.
+fn is_free(amounts: &[i64]) -> bool
+    ensures { IsTrue result → IsFree amounts.now }
+{
+    for place in 0..amounts.len() {
+        if amounts[place] != 0 {
+            return false;
+        }
+    }
+    true
 }
 
 /// The prices of compositions' units.

@@ -85,9 +85,10 @@ impl<'a> DayBounds<'a> {
     }
 
     /// Puts into a guide what compositions and edges are priced under multipliers that fit, in a region that has a set
-    /// for each trip, and what the best ways on from compositions are priced. Where the region has no way on from a
-    /// composition, that has no price; an edge of a turn has one in any region. Prices for which the guide has no place
-    /// are left out. No clause says what the guide has then. It takes no memory.
+    /// for each trip, and what the best ways on from compositions are priced. A composition that the region doesn't have
+    /// has no price, and its best way on has none where the region has no way on; an edge of a turn has one in any
+    /// region. Prices for which the guide has no place are left out. No clause says what the guide has then. It takes
+    /// no memory.
     pub fn put_prices(
         &mut self,
         region: &Region,

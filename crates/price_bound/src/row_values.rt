@@ -156,7 +156,7 @@ fn with_word(range: CompRange, word: u64, begin: usize) -> CompRange
     }
 }
 
-/// Whether each composition of so many is a member of a set, of which these are the words.
+/// True only where each composition of so many is a member of a set, of which these are the words.
 fn has_all(words: &[u64], comps: usize) -> bool
     ensures { IsTrue result → TellsAll words.now comps }
 {
@@ -174,7 +174,7 @@ fn has_all(words: &[u64], comps: usize) -> bool
     false
 }
 
-/// How many of the lowest bits of a word are 1, up to the first that is 0.
+/// A number of lowest bits of a word that are all 1. A full word is seen at once.
 fn low_ones(word: u64) -> usize
     ensures most { result ≤ WORD_BITS }
     ensures ones { (bit : ℕ) → bit < result → word / 2 ^ bit % 2 ≡ 1 }

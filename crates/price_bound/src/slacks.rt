@@ -26,8 +26,8 @@ use timetable::{Instance, Picks};
 use transitions::Graphs;
 
 /// Puts the slacks of picks that follow, those that are not 0, in place of what `into` held. The ledger is one of the
-/// day. It takes no memory. Its time, of which no clause speaks, grows with the counts of the yards, with the
-/// hand-overs, and for each station and type with the rows of the stock.
+/// day. It takes no memory. Its time, of which no clause speaks, grows with the units of the trains, with
+/// the counts of the yards, with the hand-overs, and for each station and type with the rows of the stock.
 pub(crate) fn put_slacks(
     instance: &Instance,
     graphs: &Graphs,
