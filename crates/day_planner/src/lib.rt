@@ -9,5 +9,5 @@ pub mod planning;
 
 pub use answers::{answer_with, runs_for, said};
 pub use naming::{DayNaming, Naming};
-pub use planning::{Scope, answer_for, answer_to, improved_answer_for};
+pub use planning::{Scope, answer_by_made, answer_for, answer_to, improved_answer_for};
 pub use search::Allowed;

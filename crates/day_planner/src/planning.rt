@@ -153,6 +153,38 @@ pub fn improved_answer_for<I: Improver>(
     Ok(answer)
 }
 
+/// Plans a day as `improved_answer_for` does, by an improver of which it is told how its making ended. Where memory ran
+/// out in that, so it does here, and no advisor is asked.
+///
+/// It is made for the callers that make an improver: that is dropped in this call.
+pub fn answer_by_made<I: Improver + Drop>(
+    alloc: Global,
+    instance: &Instance,
+    graphs: &Graphs,
+    allowed: Allowed,
+    made: Result<I, NoMemory>,
+    advisors: &mut Vec<Box<dyn Advisor>>,
+) -> Result<Answer, NoMemory>
+    requires graphs { AreGraphs instance.now graphs.now }
+    requires branchings { allowed.branchings ≤ MAX_BRANCHINGS }
+    requires rounds { allowed.rounds ≤ MAX_ROUNDS }
+    requires asked { All (λ advisor. asked advisor ≤ 2 ^ 63) advisors.old.items }
+
+    // The answer.
+    ensures headline { IfOk result (IsHeadline instance.now allowed.branchings) }
+
+    // The advisors: that one of the same identity stands at each place, and how often it was asked.
+    ensures advisors { AreTheSame advisors.old.items advisors.new.items identity }
+    ensures asked { AreAsked advisors.old.items advisors.new.items asked has_quit 0
+        (allowed.rounds * (2 * allowed.branchings + 1)) }
+    ensures counted { IfOk result (λ answer. AreAsked advisors.old.items advisors.new.items asked has_quit
+        (in_rounds allowed.rounds (answer.branchings + open_leaves answer))
+        (allowed.rounds * (2 * answer.branchings + 1))) }
+{
+    let mut improver = made?;
+    improved_answer_for(alloc, instance, graphs, allowed, &mut improver, advisors)
+}
+
 /// The answer to a day, in the region of all admissible compositions, with its units named by the rule of `name_units`.
 fn day_answer<I: Improver>(
     alloc: Global,

@@ -5,15 +5,13 @@ ghost use Rattle.rail_base.specs.declared.limits.TheConstants.{MAX_BRANCHINGS, M
 ghost use Rattle.search.specs.Questions.{AreAsked, AreTheSame, in_rounds};
 ghost use Rattle.answer_check.specs.Headline.{IsHeadline};
 ghost use Rattle.answer_check.specs.ProvedTrees.{open_leaves};
-ghost use Rattle.transitions.specs.Edges.{AreGraphs};
 ghost use Rattle.week_units.specs.declared.nights.TheConstants.{MAX_DAYS};
 ghost use Rattle.week_plan.specs.DayAnswers.{AreDayAnswers, is_infeasible, least_asked, most_asked};
 
 use advisors::Advisor;
 use answer_text::{Answer, Head};
 use day_improver::DayImprover;
-use day_planner::{Allowed, improved_answer_for};
-use improvers::Improver;
+use day_planner::{Allowed, answer_by_made};
 use rail_base::NoMemory;
 use std::alloc::Global;
 use timetable::Instance;
@@ -83,30 +81,5 @@ fn day_answer(
 {
     let graphs = Graphs::build(alloc, instance)?;
     let made = DayImprover::new(alloc, instance, &graphs, evaluations);
-    day_answer_by(alloc, instance, &graphs, allowed, made, advisors)
-}
-
-/// The answer to a day of which the edges are known, by an improver that was made. The error is want of memory.
-fn day_answer_by<I: Improver + Drop>(
-    alloc: Global,
-    instance: &Instance,
-    graphs: &Graphs,
-    allowed: Allowed,
-    made: Result<I, NoMemory>,
-    advisors: &mut Vec<Box<dyn Advisor>>,
-) -> Result<Answer, NoMemory>
-    requires graphs { AreGraphs instance.now graphs.now }
-    requires branchings { allowed.branchings ≤ MAX_BRANCHINGS }
-    requires rounds { allowed.rounds ≤ MAX_ROUNDS }
-    requires asked { All (λ advisor. asked advisor ≤ 2 ^ 63) advisors.old.items }
-    ensures headline { IfOk result (IsHeadline instance.now allowed.branchings) }
-    ensures advisors { AreTheSame advisors.old.items advisors.new.items identity }
-    ensures asked { AreAsked advisors.old.items advisors.new.items asked has_quit 0
-        (allowed.rounds * (2 * allowed.branchings + 1)) }
-    ensures counted { IfOk result (λ answer. AreAsked advisors.old.items advisors.new.items asked has_quit
-        (in_rounds allowed.rounds (answer.branchings + open_leaves answer))
-        (allowed.rounds * (2 * answer.branchings + 1))) }
-{
-    let mut improver = made?;
-    improved_answer_for(alloc, instance, graphs, allowed, &mut improver, advisors)
+    answer_by_made(alloc, instance, &graphs, allowed, made, advisors)
 }

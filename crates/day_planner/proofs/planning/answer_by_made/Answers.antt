@@ -1,6 +1,6 @@
 use Rattle.std.proofs.Common.{◌+◌, ◌*◌}
 use Rattle.search.proofs.Asking.{are_unasked}
-use Rattle.week_plan.proofs.answering.day_answer_by.Goals as goal
+use Rattle.day_planner.proofs.planning.answer_by_made.Goals as goal
 
 pub returns-in_err-improver-clause-asked : goal.returns-in_err-improver-clause-asked
 returns-in_err-improver-clause-asked g c =
