@@ -3,14 +3,12 @@
 ghost use Rattle.std.specs.Prelude.{All, ◌+◌, ◌*◌, ◌≤◌, ◌^◌, IfOk};
 ghost use Rattle.search.specs.Questions.{AreAsked, AreTheSame, in_rounds};
 ghost use Rattle.answer_check.specs.Headline.{IsHeadline};
-ghost use Rattle.transitions.specs.Edges.{AreGraphs};
 ghost use Rattle.fleet_size.specs.Found.{IsGranted};
 
 use advisors::Advisor;
 use answer_text::Answer;
 use day_improver::DayImprover;
-use day_planner::{Allowed, improved_answer_for};
-use improvers::Improver;
+use day_planner::{Allowed, answer_by_made};
 use rail_base::NoMemory;
 use std::alloc::Global;
 use timetable::Instance;
@@ -50,34 +48,10 @@ pub(crate) fn planned(
 {
     let graphs = Graphs::build(alloc, day)?;
     let made = DayImprover::new(alloc, day, &graphs, granted.evaluations);
-    planned_by(alloc, day, &graphs, granted, made, advisors)
-}
-
-/// Plans a day of which the edges are known, by an improver that was made, within what is granted. The error is want of
-/// memory.
-fn planned_by<I: Improver + Drop>(
-    alloc: Global,
-    day: &Instance,
-    graphs: &Graphs,
-    granted: Granted,
-    made: Result<I, NoMemory>,
-    advisors: &mut Vec<Box<dyn Advisor>>,
-) -> Result<Answer, NoMemory>
-    requires graphs { AreGraphs day.now graphs.now }
-    requires granted { IsGranted granted }
-    requires asked { All (λ advisor. asked advisor ≤ 2 ^ 63) advisors.old.items }
-    ensures headline { IfOk result (IsHeadline day.now granted.branchings) }
-    ensures advisors { AreTheSame advisors.old.items advisors.new.items identity }
-    ensures asked { AreAsked advisors.old.items advisors.new.items asked has_quit 0
-        (granted.rounds * (2 * granted.branchings + 1)) }
-    ensures counted { IfOk result (λ answer. AreAsked advisors.old.items advisors.new.items asked has_quit
-        (in_rounds granted.rounds answer.branchings) (granted.rounds * (2 * answer.branchings + 1))) }
-{
-    let mut improver = made?;
     let allowed = Allowed {
         branchings: granted.branchings,
         rounds: granted.rounds,
     };
-    let answer = improved_answer_for(alloc, day, graphs, allowed, &mut improver, advisors)?;
+    let answer = answer_by_made(alloc, day, &graphs, allowed, made, advisors)?;
     Ok(answer)
 }
