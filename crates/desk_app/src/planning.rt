@@ -6,7 +6,6 @@ ghost use Rattle.rail_io.specs.Folders.{CountsFault, OnlyReads};
 ghost use Rattle.search.specs.Questions.{AreAsked, AreTheSame, in_rounds};
 ghost use Rattle.answer_check.specs.Headline.{IsHeadline};
 ghost use Rattle.answer_check.specs.ProvedTrees.{open_leaves};
-ghost use Rattle.transitions.specs.Edges.{AreGraphs};
 ghost use Rattle.desk_app.specs.Outcomes.{is_unread};
 ghost use Rattle.desk_app.specs.PlanOutcomes.{IsDayOutcome, IsPlanOutcome};
 ghost use Rattle.desk_app.specs.Statuses.{AreAskedFor};
@@ -16,9 +15,8 @@ use advisors::Advisor;
 use answer_text::Answer;
 use day_files::day_in;
 use day_improver::{DayImprover, Watcher};
-use day_planner::{Allowed, improved_answer_for};
+use day_planner::{Allowed, answer_by_made};
 use desk_commands::Planning;
-use improvers::Improver;
 use rail_base::NoMemory;
 use rail_io::Folder;
 use std::alloc::Global;
@@ -112,44 +110,14 @@ fn answer<W: Watcher>(
 {
     let graphs = Graphs::build(alloc, instance)?;
     let evaluations = planning.evaluations;
-    if planning.tells_progress {
-        let made = DayImprover::watched(alloc, instance, &graphs, &[], evaluations, watcher);
-        return answer_by(alloc, instance, &graphs, planning, made, advisors);
-    }
-    let made = DayImprover::new(alloc, instance, &graphs, evaluations);
-    answer_by(alloc, instance, &graphs, planning, made, advisors)
-}
-
-/// The answer to a day of which the edges are known, by an improver that was made. The error is want of memory.
-fn answer_by<I: Improver + Drop>(
-    alloc: Global,
-    instance: &Instance,
-    graphs: &Graphs,
-    planning: &Planning,
-    made: Result<I, NoMemory>,
-    advisors: &mut Vec<Box<dyn Advisor>>,
-) -> Result<Answer, NoMemory>
-    // The edges, the grants, and the advisors before.
-    requires graphs { AreGraphs instance.now graphs.now }
-    requires nodes { planning.now.nodes ≤ MAX_BRANCHINGS }
-    requires rounds { planning.now.rounds ≤ MAX_ROUNDS }
-    requires asked { All (λ advisor. asked advisor ≤ 2 ^ 62) advisors.old.items }
-
-    // The answer.
-    ensures headline { IfOk result (IsHeadline instance.now planning.now.nodes) }
-
-    // The advisors.
-    ensures advisors { AreTheSame advisors.old.items advisors.new.items identity }
-    ensures asked { AreAsked advisors.old.items advisors.new.items asked has_quit 0
-        (planning.now.rounds * (2 * planning.now.nodes + 1)) }
-    ensures counted { IfOk result (λ answer. AreAsked advisors.old.items advisors.new.items asked has_quit
-        (in_rounds planning.now.rounds (answer.branchings + open_leaves answer))
-        (planning.now.rounds * (2 * answer.branchings + 1))) }
-{
-    let mut improver = made?;
     let allowed = Allowed {
         branchings: planning.nodes,
         rounds: planning.rounds,
     };
-    improved_answer_for(alloc, instance, graphs, allowed, &mut improver, advisors)
+    if planning.tells_progress {
+        let made = DayImprover::watched(alloc, instance, &graphs, &[], evaluations, watcher);
+        return answer_by_made(alloc, instance, &graphs, allowed, made, advisors);
+    }
+    let made = DayImprover::new(alloc, instance, &graphs, evaluations);
+    answer_by_made(alloc, instance, &graphs, allowed, made, advisors)
 }

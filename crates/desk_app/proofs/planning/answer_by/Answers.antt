@@ -1,7 +1,0 @@
-use Rattle.std.proofs.Common.{◌+◌, ◌*◌}
-use Rattle.search.proofs.Asking.{are_unasked}
-use Rattle.desk_app.proofs.planning.answer_by.Goals as goal
-
-pub returns-in_err-improver-clause-asked : goal.returns-in_err-improver-clause-asked
-returns-in_err-improver-clause-asked g c =
-    are_unasked _ _ (c.args.planning.now.rounds * (2 * c.args.planning.now.nodes + 1)) c.args.advisors.now.items
