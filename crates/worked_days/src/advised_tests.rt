@@ -5,11 +5,12 @@ ghost use Rattle.std.specs.Prelude.{◌≡◌, ◌≤◌, ◌^◌, All};
 ghost use Rattle.advisors.specs.Quits.{quit_after};
 ghost use Rattle.advisors.specs.Proposals.{DoesFit, IsOverSame};
 
-use crate::day::{AMPLE_ROOM, ample_sink, folder_of, one_stays, words_of};
+use crate::day::{AMPLE_ROOM, STAYING, ample_sink, folder_of, words_of};
 use advisors::{Advisor, Look, Proposal, Subgradient, Word};
 use branch_tree::{Cut, PutRefusal};
 use planner_app::railplan;
-use rail_base::{CompNo, NoMemory, TripNo, TypeNo};
+use rail_base::{CompNo, NoMemory, TripNo, TypeNo, Words};
+use rail_io::MemoryFolder;
 use std::alloc::{AllocError, Global};
 use std::process::Abort;
 use std::test::Fail;
@@ -173,10 +174,22 @@ fn planned(
 ) -> Result<String, Fail>
     requires asked { All (λ advisor. asked advisor ≤ 2 ^ 63) advisors.old.items }
 {
-    let mut folder = folder_of(rt, alloc, &one_stays(), Vec::new(alloc))?;
-    let mut out = ample_sink(alloc, AMPLE_ROOM)?;
+    let mut folder = folder_of(rt, alloc, STAYING, Vec::new(alloc))?;
     let words = words_of(rt, alloc, words)?;
-    let status = railplan(alloc, &words, &mut folder, &mut out, advisors);
+    planned_in(alloc, &mut folder, &words, advisors)
+}
+
+/// What words come to over a folder, told likewise.
+fn planned_in(
+    alloc: Global,
+    folder: &mut MemoryFolder,
+    words: &Words,
+    advisors: &mut Vec<Box<dyn Advisor>>,
+) -> Result<String, Fail>
+    requires asked { All (λ advisor. asked advisor ≤ 2 ^ 63) advisors.old.items }
+{
+    let mut out = ample_sink(alloc, AMPLE_ROOM)?;
+    let status = railplan(alloc, words, folder, &mut out, advisors);
     Ok(told(alloc, status, out.written(), advisors)?)
 }
 

@@ -30,175 +30,119 @@ pub(crate) struct Day<'a> {
     pub(crate) answer: Option<&'a str>,
 }
 
-impl<'a> Day<'a> {
-    /// The day with another table of types.
-    pub(crate) fn with_types(self, types: &'a str) -> Day<'a> {
-        Day {
-            types: Some(types),
-            ..self
-        }
-    }
-
-    /// The day with another table of stations.
-    pub(crate) fn with_stations(self, stations: &'a str) -> Day<'a> {
-        Day {
-            stations: Some(stations),
-            ..self
-        }
-    }
-
-    /// The day with another table of stock.
-    pub(crate) fn with_stock(self, stock: &'a str) -> Day<'a> {
-        Day {
-            stock: Some(stock),
-            ..self
-        }
-    }
-
-    /// The day with another table of trips.
-    pub(crate) fn with_trips(self, trips: &'a str) -> Day<'a> {
-        Day {
-            trips: Some(trips),
-            ..self
-        }
-    }
-
-    /// The day with another plan.
-    pub(crate) fn with_plan(self, plan: &'a str) -> Day<'a> {
-        Day {
-            plan: Some(plan),
-            ..self
-        }
-    }
-}
-
 /// The day of two trips: X to Y 08:00 to 09:00 and back 09:30 to 10:30, with one unit.
-pub(crate) fn two_trips() -> Day<'static> {
-    Day {
-        types: Some("type,carriages,seats,metres,family\nA,3,200,80,regional\n"),
-        stations: Some("station,platform,reallocation\nX,200,30\nY,200,30\n"),
-        stock: Some("station,type,start,end\nX,A,1,1\n"),
-        trips: Some(
-            "trip,from,departure,to,arrival,km,demand\nT1,X,08:00,Y,09:00,10,150\nT2,Y,09:30,X,10:30,10,150\n",
-        ),
-        links: Some("kind,arriving,arriving2,departing,departing2,reverse,uncouple,couple\n"),
-        weights: Some("carriage,shortage,shunting\n1,1,100\n"),
-        plan: Some("trip,units\nT1,0\nT2,0\n"),
-        answer: None,
-    }
-}
+pub(crate) const TWO_TRIPS: Day<'static> = Day {
+    types: Some("type,carriages,seats,metres,family\nA,3,200,80,regional\n"),
+    stations: Some("station,platform,reallocation\nX,200,30\nY,200,30\n"),
+    stock: Some("station,type,start,end\nX,A,1,1\n"),
+    trips: Some(
+        "trip,from,departure,to,arrival,km,demand\nT1,X,08:00,Y,09:00,10,150\nT2,Y,09:30,X,10:30,10,150\n",
+    ),
+    links: Some("kind,arriving,arriving2,departing,departing2,reverse,uncouple,couple\n"),
+    weights: Some("carriage,shortage,shunting\n1,1,100\n"),
+    plan: Some("trip,units\nT1,0\nT2,0\n"),
+    answer: None,
+};
 
 /// The day on which the unit is ready at the minute of its arrival, which is that of the next departure.
-pub(crate) fn ready_at_once() -> Day<'static> {
-    Day {
-        stations: Some("station,platform,reallocation\nX,200,30\nY,200,0\n"),
-        trips: Some(
-            "trip,from,departure,to,arrival,km,demand\nT1,X,08:00,Y,09:00,10,150\nT2,Y,09:00,X,10:00,10,150\n",
-        ),
-        ..two_trips()
-    }
-}
+pub(crate) const READY_AT_ONCE: Day<'static> = Day {
+    stations: Some("station,platform,reallocation\nX,200,30\nY,200,0\n"),
+    trips: Some(
+        "trip,from,departure,to,arrival,km,demand\nT1,X,08:00,Y,09:00,10,150\nT2,Y,09:00,X,10:00,10,150\n",
+    ),
+    ..TWO_TRIPS
+};
 
 /// The day of a turn: two units go out and come back on one link, with ten minutes between.
-pub(crate) fn base_day() -> Day<'static> {
-    Day {
-        stock: Some("station,type,start,end\nX,A,2,2\n"),
-        trips: Some(
-            "trip,from,departure,to,arrival,km,demand\nT1,X,08:00,Y,09:00,10,300\nT2,Y,09:10,X,10:10,10,150\n",
-        ),
-        links: Some(
-            "kind,arriving,arriving2,departing,departing2,reverse,uncouple,couple\nturn,T1,,T2,,yes,rear,none\n",
-        ),
-        plan: Some("trip,units\nT1,0 1\nT2,1 0\n"),
-        ..two_trips()
-    }
-}
+pub(crate) const BASE_DAY: Day<'static> = Day {
+    stock: Some("station,type,start,end\nX,A,2,2\n"),
+    trips: Some(
+        "trip,from,departure,to,arrival,km,demand\nT1,X,08:00,Y,09:00,10,300\nT2,Y,09:10,X,10:10,10,150\n",
+    ),
+    links: Some(
+        "kind,arriving,arriving2,departing,departing2,reverse,uncouple,couple\nturn,T1,,T2,,yes,rear,none\n",
+    ),
+    plan: Some("trip,units\nT1,0 1\nT2,1 0\n"),
+    ..TWO_TRIPS
+};
 
 /// The base day with cheap shunting. Its plans run with one unit or with both, and come back whole.
-pub(crate) fn cheap_shunting() -> Day<'static> {
-    Day {
-        weights: Some("carriage,shortage,shunting\n1,1,10\n"),
-        ..base_day()
-    }
-}
+pub(crate) const CHEAP_SHUNTING: Day<'static> = Day {
+    weights: Some("carriage,shortage,shunting\n1,1,10\n"),
+    ..BASE_DAY
+};
 
 /// The base day on which one of the two units is to stay at the other station.
-pub(crate) fn one_stays() -> Day<'static> {
-    Day {
-        stock: Some("station,type,start,end\nX,A,2,1\nY,A,0,1\n"),
-        ..base_day()
-    }
-}
+pub(crate) const ONE_STAYS: Day<'static> = Day {
+    stock: Some("station,type,start,end\nX,A,2,1\nY,A,0,1\n"),
+    ..BASE_DAY
+};
 
 /// The base day on which both units are to stay at the other station.
-pub(crate) fn both_stay() -> Day<'static> {
-    Day {
-        stock: Some("station,type,start,end\nX,A,2,0\nY,A,0,2\n"),
-        ..base_day()
-    }
-}
+pub(crate) const BOTH_STAY: Day<'static> = Day {
+    stock: Some("station,type,start,end\nX,A,2,0\nY,A,0,2\n"),
+    ..BASE_DAY
+};
 
 /// The base day with units of two types and platforms of 140 metres.
-pub(crate) fn two_types() -> Day<'static> {
-    Day {
-        types: Some(
-            "type,carriages,seats,metres,family\nA,3,200,80,regional\nB,2,100,60,regional\n",
-        ),
-        stations: Some("station,platform,reallocation\nX,140,30\nY,140,30\n"),
-        stock: Some("station,type,start,end\nX,A,1,0\nX,B,1,1\nY,A,0,1\n"),
-        trips: Some(
-            "trip,from,departure,to,arrival,km,demand\nT1,X,08:00,Y,09:00,10,300\nT2,Y,09:10,X,10:10,10,100\n",
-        ),
-        plan: Some("trip,units\nT1,0 1\nT2,1\n"),
-        ..base_day()
-    }
-}
+pub(crate) const TWO_TYPES: Day<'static> = Day {
+    types: Some("type,carriages,seats,metres,family\nA,3,200,80,regional\nB,2,100,60,regional\n"),
+    stations: Some("station,platform,reallocation\nX,140,30\nY,140,30\n"),
+    stock: Some("station,type,start,end\nX,A,1,0\nX,B,1,1\nY,A,0,1\n"),
+    trips: Some(
+        "trip,from,departure,to,arrival,km,demand\nT1,X,08:00,Y,09:00,10,300\nT2,Y,09:10,X,10:10,10,100\n",
+    ),
+    plan: Some("trip,units\nT1,0 1\nT2,1\n"),
+    ..BASE_DAY
+};
 
 /// A ring: one trip's train is split over two trips, and a third trip's is joined of two.
-pub(crate) fn ring() -> Day<'static> {
-    Day {
-        stations: Some("station,platform,reallocation\nX,240,30\nY,240,30\nZ,240,30\n"),
-        stock: Some("station,type,start,end\nX,A,3,3\n"),
-        trips: Some(
-            "trip,from,departure,to,arrival,km,demand\nT1,X,08:00,Y,09:00,10,300\nT2,Y,09:10,Z,10:00,10,300\n\
-                T3,Y,09:20,Z,10:10,10,300\nT4,Z,10:30,X,11:30,10,300\n",
-        ),
-        links: Some(
-            "kind,arriving,arriving2,departing,departing2,reverse,uncouple,couple\n\
-                split,T1,,T2,T3,no,none,none\njoin,T3,T2,T4,,no,none,none\n",
-        ),
-        plan: Some("trip,units\nT1,0 1 2\nT2,0 1\nT3,2\nT4,2 0 1\n"),
-        ..two_trips()
-    }
-}
+pub(crate) const RING: Day<'static> = Day {
+    stations: Some("station,platform,reallocation\nX,240,30\nY,240,30\nZ,240,30\n"),
+    stock: Some("station,type,start,end\nX,A,3,3\n"),
+    trips: Some(
+        "trip,from,departure,to,arrival,km,demand\nT1,X,08:00,Y,09:00,10,300\nT2,Y,09:10,Z,10:00,10,300\n\
+            T3,Y,09:20,Z,10:10,10,300\nT4,Z,10:30,X,11:30,10,300\n",
+    ),
+    links: Some(
+        "kind,arriving,arriving2,departing,departing2,reverse,uncouple,couple\n\
+            split,T1,,T2,T3,no,none,none\njoin,T3,T2,T4,,no,none,none\n",
+    ),
+    plan: Some("trip,units\nT1,0 1 2\nT2,0 1\nT3,2\nT4,2 0 1\n"),
+    ..TWO_TRIPS
+};
 
 /// A day with names in quotes and lines ended by CRLF, on which a unit waits while the rest of its train goes on.
-pub(crate) fn northport() -> Day<'static> {
-    Day {
-        types: Some(
-            "type,carriages,seats,metres,family\r\nIC-3,3,192,81,inter\r\nIC-4,4,254,108,inter\r\n",
-        ),
-        stations: Some(
-            "station,platform,reallocation\r\n\"Northport, Central\",340,20\r\nMidford,340,20\r\nSouthhaven,270,20\r\n",
-        ),
-        stock: Some(
-            "station,type,start,end\r\n\"Northport, Central\",IC-3,2,2\r\n\"Northport, Central\",IC-4,1,1\r\n",
-        ),
-        trips: Some(
-            "trip,from,departure,to,arrival,km,demand\r\n\
-                101,\"Northport, Central\",06:02,Midford,06:58,74,310\r\n\
-                102,Midford,07:05,Southhaven,07:50,58,180\r\n103,Southhaven,08:10,Midford,08:55,58,170\r\n\
-                104,Midford,09:02,\"Northport, Central\",09:58,74,290\r\n",
-        ),
-        links: Some(
-            "kind,arriving,arriving2,departing,departing2,reverse,uncouple,couple\r\n\
-                turn,101,,102,,no,rear,none\r\nturn,102,,103,,yes,none,none\r\nturn,103,,104,,no,none,rear\r\n",
-        ),
-        weights: Some("carriage,shortage,shunting\r\n10,10,500\r\n"),
-        plan: Some("trip,units\r\n101,0 1\r\n102,0\r\n103,0\r\n104,0 1\r\n"),
-        answer: None,
-    }
-}
+pub(crate) const NORTHPORT: Day<'static> = Day {
+    types: Some(
+        "type,carriages,seats,metres,family\r\nIC-3,3,192,81,inter\r\nIC-4,4,254,108,inter\r\n",
+    ),
+    stations: Some(
+        "station,platform,reallocation\r\n\"Northport, Central\",340,20\r\nMidford,340,20\r\nSouthhaven,270,20\r\n",
+    ),
+    stock: Some(
+        "station,type,start,end\r\n\"Northport, Central\",IC-3,2,2\r\n\"Northport, Central\",IC-4,1,1\r\n",
+    ),
+    trips: Some(
+        "trip,from,departure,to,arrival,km,demand\r\n\
+            101,\"Northport, Central\",06:02,Midford,06:58,74,310\r\n\
+            102,Midford,07:05,Southhaven,07:50,58,180\r\n103,Southhaven,08:10,Midford,08:55,58,170\r\n\
+            104,Midford,09:02,\"Northport, Central\",09:58,74,290\r\n",
+    ),
+    links: Some(
+        "kind,arriving,arriving2,departing,departing2,reverse,uncouple,couple\r\n\
+            turn,101,,102,,no,rear,none\r\nturn,102,,103,,yes,none,none\r\nturn,103,,104,,no,none,rear\r\n",
+    ),
+    weights: Some("carriage,shortage,shunting\r\n10,10,500\r\n"),
+    plan: Some("trip,units\r\n101,0 1\r\n102,0\r\n103,0\r\n104,0 1\r\n"),
+    answer: None,
+};
+
+/// The day of two trips, to be borrowed.
+pub(crate) const A_DAY: &Day<'static> = &TWO_TRIPS;
+
+/// The day on which one unit stays, to be borrowed.
+pub(crate) const STAYING: &Day<'static> = &ONE_STAYS;
 
 /// Adds a file.
 fn add(
@@ -210,6 +154,19 @@ fn add(
 ) -> Result<(), NoMemory> {
     assert!(rt; is_name(path.as_bytes()));
     Ok(files.push(MemoryFile::new(alloc, path, bytes)?)?)
+}
+
+/// Adds a file of a folder.
+fn add_in(
+    rt: &impl Abort,
+    alloc: Global,
+    files: &mut Vec<MemoryFile>,
+    dir: &str,
+    name: &str,
+    text: &str,
+) -> Result<(), NoMemory> {
+    let path = format!(in alloc; "{dir}/{name}")?;
+    add(rt, alloc, files, path.as_str(), text.as_bytes())
 }
 
 /// Adds the files of a day in a folder that are there.
@@ -232,8 +189,7 @@ fn add_day(
     ];
     for (name, text) in &rows {
         if let Some(text) = text {
-            let path = format!(in alloc; "{dir}/{name}")?;
-            add(rt, alloc, files, path.as_str(), text.as_bytes())?;
+            add_in(rt, alloc, files, dir, name, text)?;
         }
     }
     Ok(())
@@ -297,11 +253,17 @@ pub(crate) fn folder_with_bytes(
 /// The words of a command line.
 pub(crate) fn words_of(rt: &impl Abort, alloc: Global, texts: &[&str]) -> Result<Words, NoMemory> {
     let mut words = Words::new(alloc)?;
+    add_words(rt, &mut words, texts)?;
+    Ok(words)
+}
+
+/// Adds words.
+fn add_words(rt: &impl Abort, words: &mut Words, texts: &[&str]) -> Result<(), NoMemory> {
     for text in texts {
         assert!(rt; words.len() < 1000);
         words.push(*text)?;
     }
-    Ok(words)
+    Ok(())
 }
 
 /// The status of the words over a folder and a sink, with the advisors that the program has. It tells of a failed read
@@ -394,9 +356,22 @@ pub(crate) fn expect_run(
     document: &[u8],
 ) -> Result<(), NoMemory> {
     let found = status_of(rt, alloc, words, folder, out)?;
-    assert!(rt; out.written() == document);
-    assert!(rt; found == status);
+    assert!(rt; found == status && out.written() == document);
     Ok(())
+}
+
+/// Asserts the status of words over the folder of a day and a sink, and all that is in the sink then.
+pub(crate) fn expect_into(
+    rt: &impl Abort,
+    alloc: Global,
+    day: &Day,
+    words: &[&str],
+    out: &mut MemorySink,
+    status: u8,
+    document: &[u8],
+) -> Result<(), NoMemory> {
+    let mut folder = folder_of(rt, alloc, day, Vec::new(alloc))?;
+    expect_run(rt, alloc, words, &mut folder, out, status, document)
 }
 
 /// Asserts the status of words over a folder, and the document that is written where there is ample room.
@@ -435,6 +410,19 @@ pub(crate) fn expect_answered(
     expect_ample(rt, alloc, &words, &mut folder, status, document)
 }
 
+/// Asserts the status and the document of words over the folder of a day.
+pub(crate) fn expect_words(
+    rt: &impl Abort,
+    alloc: Global,
+    day: &Day,
+    words: &[&str],
+    status: u8,
+    document: &str,
+) -> Result<(), NoMemory> {
+    let mut folder = folder_of(rt, alloc, day, Vec::new(alloc))?;
+    expect_ample(rt, alloc, words, &mut folder, status, document)
+}
+
 /// Asserts the status and the document of `simulate day` over a folder.
 pub(crate) fn expect_simulated(
     rt: &impl Abort,
@@ -447,6 +435,21 @@ pub(crate) fn expect_simulated(
     expect_ample(rt, alloc, words, folder, status, document)
 }
 
+/// A day, the status of the run of its plan, and the document of that.
+pub(crate) type Simulation = (Day<'static>, u8, &'static str);
+
+/// Asserts how the plans of days run.
+pub(crate) fn expect_simulations(
+    rt: &impl Abort,
+    alloc: Global,
+    rows: &[Simulation],
+) -> Result<(), NoMemory> {
+    for (day, status, document) in rows {
+        expect_document(rt, alloc, day, *status, document)?;
+    }
+    Ok(())
+}
+
 /// Asserts the status of a day that is simulated, and the document that it writes.
 pub(crate) fn expect_document(
     rt: &impl Abort,
@@ -455,6 +458,6 @@ pub(crate) fn expect_document(
     status: u8,
     document: &str,
 ) -> Result<(), NoMemory> {
-    let mut folder = folder_of(rt, alloc, day, Vec::new(alloc))?;
-    expect_simulated(rt, alloc, &mut folder, status, document)
+    let words = &["railplan", "simulate", "day"];
+    expect_words(rt, alloc, day, words, status, document)
 }

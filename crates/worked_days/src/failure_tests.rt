@@ -3,16 +3,17 @@
 //! disk a folder that is not there cannot be read.
 
 use crate::day::{
-    Day, base_day, bytewise_sink, expect_run, folder_of, one_stays, ring, run_on_disk, run_surely,
-    sure_folder_of, two_trips, words_of,
+    BASE_DAY, Day, ONE_STAYS, RING, TWO_TRIPS, bytewise_sink, expect_run, folder_of, run_on_disk,
+    run_surely, sure_folder_of, words_of,
 };
 use crate::report_tests::{COSTS, DUTIES, FIRST_BOUND, ONE_RETURNS, WRONG_BOUND, YARDS};
 use crate::simulate_tests::USAGE;
-use rail_base::NoMemory;
+use rail_base::{NoMemory, Words};
 use rail_io::{DiskFolder, MemorySink, StdoutSink, SureFolder, SureSink};
 use std::alloc::Global;
+use std::io::Print;
 use std::process::Abort;
-use std::test::Fail;
+use std::rt::Files;
 
 /// A command over a day, the file that it reads after the six tables, how many reads it makes where none is told to
 /// fail, and what it comes to then. The read of a file that is not there counts too, and fails anyhow.
@@ -27,187 +28,154 @@ struct Case<'a> {
 }
 
 /// A plan of the day of a turn. It reads six files.
-fn planned() -> Case<'static> {
-    Case {
-        words: &["railplan", "plan", "day"],
-        day: base_day(),
-        last: "",
-        reads: 12,
-        status: 0,
-        document: "railplan answer 1\noptimal 120\nbranchings 0\nrun 0 0 1\nrun 1 1 0\ntree\ncost 120 0\nend\n",
-    }
-}
+const PLANNED: Case<'static> = Case {
+    words: &["railplan", "plan", "day"],
+    day: BASE_DAY,
+    last: "",
+    reads: 12,
+    status: 0,
+    document: "railplan answer 1\noptimal 120\nbranchings 0\nrun 0 0 1\nrun 1 1 0\ntree\ncost 120 0\nend\n",
+};
 
 /// A run of the plan of the ring. It reads seven files.
-fn simulated() -> Case<'static> {
-    Case {
-        words: &["railplan", "simulate", "day"],
-        day: ring(),
-        last: "plan.csv",
-        reads: 14,
-        status: 0,
-        document: "runs 1270\n",
-    }
-}
+const SIMULATED: Case<'static> = Case {
+    words: &["railplan", "simulate", "day"],
+    day: RING,
+    last: "plan.csv",
+    reads: 14,
+    status: 0,
+    document: "runs 1270\n",
+};
 
 /// A run of a plan in which the last train of the ring is joined in the wrong order.
-fn stopped() -> Case<'static> {
-    Case {
-        day: Day {
-            plan: Some("trip,units\nT1,0 1 2\nT2,0 1\nT3,2\nT4,0 1 2\n"),
-            ..ring()
-        },
-        status: 1,
-        document: "stops: link 1 is broken\n",
-        ..simulated()
-    }
-}
+const STOPPED: Case<'static> = Case {
+    day: Day {
+        plan: Some("trip,units\nT1,0 1 2\nT2,0 1\nT3,2\nT4,0 1 2\n"),
+        ..RING
+    },
+    status: 1,
+    document: "stops: link 1 is broken\n",
+    ..SIMULATED
+};
 
 /// A run where a table is refused as it is read. The tables after it are not read.
-fn refused_at_once() -> Case<'static> {
-    Case {
-        day: Day {
-            trips: Some("trip\n"),
-            ..ring()
-        },
-        reads: 8,
-        status: 3,
-        document: "refused trips.csv: wrong header\n",
-        ..simulated()
-    }
-}
+const REFUSED_AT_ONCE: Case<'static> = Case {
+    day: Day {
+        trips: Some("trip\n"),
+        ..RING
+    },
+    reads: 8,
+    status: 3,
+    document: "refused trips.csv: wrong header\n",
+    ..SIMULATED
+};
 
 /// A run where a table is refused once all six are read. The plan is not read.
-fn refused_as_a_day() -> Case<'static> {
-    Case {
-        day: Day {
-            types: Some("type,carriages,seats,metres,family\nA,3,200,241,regional\n"),
-            ..ring()
-        },
-        reads: 12,
-        status: 3,
-        document: "refused trips.csv: row 1: no composition fits\n",
-        ..simulated()
-    }
-}
+const REFUSED_AS_A_DAY: Case<'static> = Case {
+    day: Day {
+        types: Some("type,carriages,seats,metres,family\nA,3,200,241,regional\n"),
+        ..RING
+    },
+    reads: 12,
+    status: 3,
+    document: "refused trips.csv: row 1: no composition fits\n",
+    ..SIMULATED
+};
 
 /// A run of a plan that is not there.
-fn without_plan_file() -> Case<'static> {
-    Case {
-        day: Day {
-            plan: None,
-            ..ring()
-        },
-        reads: 13,
-        status: 5,
-        document: "cannot read plan.csv\n",
-        ..simulated()
-    }
-}
+const WITHOUT_PLAN_FILE: Case<'static> = Case {
+    day: Day { plan: None, ..RING },
+    reads: 13,
+    status: 5,
+    document: "cannot read plan.csv\n",
+    ..SIMULATED
+};
 
 /// A plan of a day whose trips are not there.
-fn without_trips_file() -> Case<'static> {
-    Case {
-        day: Day {
-            trips: None,
-            ..base_day()
-        },
-        reads: 7,
-        status: 5,
-        document: "cannot read trips.csv\n",
-        ..planned()
-    }
-}
+const WITHOUT_TRIPS_FILE: &Case<'static> = &Case {
+    day: Day {
+        trips: None,
+        ..BASE_DAY
+    },
+    reads: 7,
+    status: 5,
+    document: "cannot read trips.csv\n",
+    ..PLANNED
+};
 
 /// A check of the answer to the day on which one unit stays. It reads seven files.
-fn checked() -> Case<'static> {
-    Case {
-        words: &["railplan", "check", "day"],
-        day: Day {
-            answer: Some(ONE_RETURNS),
-            ..one_stays()
-        },
-        last: "answer.txt",
-        reads: 14,
-        status: 0,
-        document: "valid optimal 190\n",
-    }
-}
+const CHECKED: Case<'static> = Case {
+    words: &["railplan", "check", "day"],
+    day: Day {
+        answer: Some(ONE_RETURNS),
+        ..ONE_STAYS
+    },
+    last: "answer.txt",
+    reads: 14,
+    status: 0,
+    document: "valid optimal 190\n",
+};
 
 /// The report of the units' trips on that answer.
-fn duties() -> Case<'static> {
-    Case {
-        words: &["railplan", "duties", "day"],
-        document: DUTIES,
-        ..checked()
-    }
-}
+const DUTIES_REPORT: Case<'static> = Case {
+    words: &["railplan", "duties", "day"],
+    document: DUTIES,
+    ..CHECKED
+};
 
 /// The report of the stations' counts on that answer.
-fn yards() -> Case<'static> {
-    Case {
-        words: &["railplan", "yards", "day"],
-        document: YARDS,
-        ..checked()
-    }
-}
+const YARDS_REPORT: Case<'static> = Case {
+    words: &["railplan", "yards", "day"],
+    document: YARDS,
+    ..CHECKED
+};
 
 /// The report of the cost of that answer.
-fn costs() -> Case<'static> {
-    Case {
-        words: &["railplan", "costs", "day"],
-        document: COSTS,
-        ..checked()
-    }
-}
+const COSTS_REPORT: Case<'static> = Case {
+    words: &["railplan", "costs", "day"],
+    document: COSTS,
+    ..CHECKED
+};
 
 /// A check of an answer in which a bound is wrong.
-fn invalid() -> Case<'static> {
-    Case {
-        day: Day {
-            answer: Some(WRONG_BOUND),
-            ..one_stays()
-        },
-        status: 1,
-        document: "invalid: node 0 says 191, found 190\n",
-        ..checked()
-    }
-}
+const INVALID: Case<'static> = Case {
+    day: Day {
+        answer: Some(WRONG_BOUND),
+        ..ONE_STAYS
+    },
+    status: 1,
+    document: "invalid: node 0 says 191, found 190\n",
+    ..CHECKED
+};
 
 /// The report of the cost of an answer that has no plan.
-fn without_plan() -> Case<'static> {
-    Case {
-        day: Day {
-            answer: Some(FIRST_BOUND),
-            ..one_stays()
-        },
-        status: 1,
-        document: "no plan\n",
-        ..costs()
-    }
-}
+const WITHOUT_PLAN: Case<'static> = Case {
+    day: Day {
+        answer: Some(FIRST_BOUND),
+        ..ONE_STAYS
+    },
+    status: 1,
+    document: "no plan\n",
+    ..COSTS_REPORT
+};
 
 /// A trial day that is planned. It reads no file.
-fn tried() -> Case<'static> {
-    Case {
-        words: &["railplan", "trial", "7", "2", "--nodes", "224"],
-        day: two_trips(),
-        last: "",
-        reads: 0,
-        status: 0,
-        document: "trial 7 2\noptimal 640\n",
-    }
-}
+const TRIED: Case<'static> = Case {
+    words: &["railplan", "trial", "7", "2", "--nodes", "224"],
+    day: TWO_TRIPS,
+    last: "",
+    reads: 0,
+    status: 0,
+    document: "trial 7 2\noptimal 640\n",
+};
 
 /// Words that are not understood.
-fn misunderstood() -> Case<'static> {
-    Case {
-        words: &["railplan", "help"],
-        status: 2,
-        document: USAGE,
-        ..tried()
-    }
-}
+const MISUNDERSTOOD: Case<'static> = Case {
+    words: &["railplan", "help"],
+    status: 2,
+    document: USAGE,
+    ..TRIED
+};
 
 /// The file of a read. A short file takes two, one for its bytes and one that finds its end.
 fn file_of<'a>(case: &Case<'a>, read: u64) -> &'a str {
@@ -276,15 +244,20 @@ fn expect_read_named(
     expect_reads(rt, alloc, case, failing, 5, unread.as_bytes())
 }
 
+/// Asserts that a run ends as ever where a read is to fail that it does not make.
+fn expect_not_read(rt: &impl Abort, alloc: Global, case: &Case, read: u64) -> Result<(), NoMemory> {
+    let failing = vec![in alloc; read]?;
+    let document = case.document.as_bytes();
+    expect_reads(rt, alloc, case, failing, case.status, document)
+}
+
 /// Asserts that a run names the file of the read that fails, and that nothing but the reads of the case counts.
 fn expect_reads_named(rt: &impl Abort, alloc: Global, case: &Case) -> Result<(), NoMemory> {
     for read in 0..15 {
         if read < case.reads {
             expect_read_named(rt, alloc, case, read)?;
         } else {
-            let failing = vec![in alloc; read]?;
-            let document = case.document.as_bytes();
-            expect_reads(rt, alloc, case, failing, case.status, document)?;
+            expect_not_read(rt, alloc, case, read)?;
         }
     }
     Ok(())
@@ -322,6 +295,20 @@ fn sure_status(
     run_surely(alloc, &words, folder, out)
 }
 
+/// Asserts the status of a case over a folder and a sink that never fail, and what the sink tells.
+fn expect_told_by(
+    rt: &impl Abort,
+    alloc: Global,
+    case: &Case,
+    folder: &mut SureFolder,
+    out: &mut SureSink,
+    told: Option<&[u8]>,
+) -> Result<(), NoMemory> {
+    let status = sure_status(rt, alloc, case, folder, out)?;
+    assert!(rt; status == case.status && out.written() == told);
+    Ok(())
+}
+
 /// Asserts the status of a case over a folder and a sink that never fail, and what the sink tells, where it has room
 /// for so many bytes.
 fn expect_told(
@@ -333,9 +320,7 @@ fn expect_told(
     told: Option<&[u8]>,
 ) -> Result<(), NoMemory> {
     let mut out = SureSink::new(alloc, room)?;
-    let status = sure_status(rt, alloc, case, folder, &mut out)?;
-    assert!(rt; status == case.status && out.written() == told);
-    Ok(())
+    expect_told_by(rt, alloc, case, folder, &mut out, told)
 }
 
 /// Asserts that a run ends as ever over a folder and a sink that never fail; and where the sink has no room for the
@@ -348,80 +333,68 @@ fn expect_sure(rt: &impl Abort, alloc: Global, case: &Case) -> Result<(), NoMemo
     expect_told(rt, alloc, case, &mut folder, room, None)
 }
 
+/// Runs of which each read fails in turn.
+const READ_CASES: &[Case] = &[
+    SIMULATED,
+    STOPPED,
+    REFUSED_AT_ONCE,
+    REFUSED_AS_A_DAY,
+    PLANNED,
+    CHECKED,
+    DUTIES_REPORT,
+    YARDS_REPORT,
+    COSTS_REPORT,
+    TRIED,
+];
+
 #[test]
-fn each_read_of_a_simulation_fails_in_turn(rt: HostRuntime) -> Result<(), Fail> {
-    for case in [
-        simulated(),
-        stopped(),
-        refused_at_once(),
-        refused_as_a_day(),
-    ] {
-        expect_reads_named(&rt, rt.alloc(), &case)?;
+fn each_read_fails_in_turn(rt: HostRuntime) -> Result<(), NoMemory> {
+    for case in READ_CASES {
+        expect_reads_named(&rt, rt.alloc(), case)?;
     }
     Ok(())
 }
 
+/// Runs of which each write fails in turn.
+const WRITE_CASES: &[Case] = &[
+    SIMULATED,
+    STOPPED,
+    REFUSED_AT_ONCE,
+    WITHOUT_PLAN_FILE,
+    PLANNED,
+    TRIED,
+    CHECKED,
+    DUTIES_REPORT,
+    YARDS_REPORT,
+    COSTS_REPORT,
+    INVALID,
+    WITHOUT_PLAN,
+    MISUNDERSTOOD,
+];
+
 #[test]
-fn each_read_of_the_other_commands_fails_in_turn(rt: HostRuntime) -> Result<(), Fail> {
-    for case in [planned(), checked(), duties(), yards(), costs(), tried()] {
-        expect_reads_named(&rt, rt.alloc(), &case)?;
+fn each_write_fails_in_turn(rt: HostRuntime) -> Result<(), NoMemory> {
+    for case in WRITE_CASES {
+        expect_writes_cut(&rt, rt.alloc(), case)?;
     }
     Ok(())
 }
 
-#[test]
-fn each_write_of_a_simulation_fails_in_turn(rt: HostRuntime) -> Result<(), Fail> {
-    for case in [
-        simulated(),
-        stopped(),
-        refused_at_once(),
-        without_plan_file(),
-    ] {
-        expect_writes_cut(&rt, rt.alloc(), &case)?;
-    }
-    Ok(())
-}
+/// Runs over folders and sinks that never fail.
+const SURE_CASES: &[Case] = &[
+    PLANNED,
+    SIMULATED,
+    CHECKED,
+    DUTIES_REPORT,
+    YARDS_REPORT,
+    COSTS_REPORT,
+    TRIED,
+];
 
 #[test]
-fn each_write_of_a_plan_and_of_a_trial_fails_in_turn(rt: HostRuntime) -> Result<(), Fail> {
-    expect_writes_cut(&rt, rt.alloc(), &planned())?;
-    expect_writes_cut(&rt, rt.alloc(), &tried())?;
-    Ok(())
-}
-
-#[test]
-fn each_write_of_a_check_and_of_a_report_fails_in_turn(rt: HostRuntime) -> Result<(), Fail> {
-    for case in [
-        checked(),
-        duties(),
-        yards(),
-        costs(),
-        invalid(),
-        without_plan(),
-    ] {
-        expect_writes_cut(&rt, rt.alloc(), &case)?;
-    }
-    Ok(())
-}
-
-#[test]
-fn each_write_of_the_usage_fails_in_turn(rt: HostRuntime) -> Result<(), Fail> {
-    expect_writes_cut(&rt, rt.alloc(), &misunderstood())?;
-    Ok(())
-}
-
-#[test]
-fn sure_folders_and_sinks_end_as_ever(rt: HostRuntime) -> Result<(), Fail> {
-    for case in [
-        planned(),
-        simulated(),
-        checked(),
-        duties(),
-        yards(),
-        costs(),
-        tried(),
-    ] {
-        expect_sure(&rt, rt.alloc(), &case)?;
+fn sure_folders_and_sinks_end_as_ever(rt: HostRuntime) -> Result<(), NoMemory> {
+    for case in SURE_CASES {
+        expect_sure(&rt, rt.alloc(), case)?;
     }
     Ok(())
 }
@@ -438,18 +411,23 @@ fn table_of_one_name(alloc: Global, bytes: usize) -> Result<String, NoMemory> {
     Ok(table)
 }
 
-/// A plan of the day of a turn with another table of types, of 4 MiB or a byte more, which is refused. Of 64 KiB at a
-/// read it takes 64 reads; one more finds its end, or the byte that is too much.
+/// A plan of the day of a turn that is refused for its table of types, of 4 MiB or a byte more. Of 64 KiB at a read it
+/// takes 64 reads; one more finds its end, or the byte that is too much.
+const LONG_TABLE: &Case<'static> = &Case {
+    reads: 65,
+    status: 3,
+    ..PLANNED
+};
+
+/// That plan with such a table.
 fn refused_plan<'a>(types: &'a str, document: &'a str) -> Case<'a> {
     Case {
         day: Day {
             types: Some(types),
-            ..base_day()
+            ..LONG_TABLE.day
         },
-        reads: 65,
-        status: 3,
         document,
-        ..planned()
+        ..*LONG_TABLE
     }
 }
 
@@ -459,30 +437,41 @@ fn expect_case(rt: &impl Abort, alloc: Global, case: &Case) -> Result<(), NoMemo
     expect_reads(rt, alloc, case, Vec::new(alloc), case.status, document)
 }
 
+/// Asserts what is written of a plan whose table of types has one row and so many bytes.
+fn expect_name_refused(
+    rt: &impl Abort,
+    alloc: Global,
+    bytes: usize,
+    document: &str,
+) -> Result<(), NoMemory> {
+    let table = table_of_one_name(alloc, bytes)?;
+    expect_case(rt, alloc, &refused_plan(table.as_str(), document))
+}
+
 #[test]
-fn a_name_may_not_fill_a_table(rt: HostRuntime) -> Result<(), Fail> {
-    let alloc = rt.alloc();
-    let table = table_of_one_name(alloc, 4_194_304)?;
+fn a_name_may_not_fill_a_table(rt: HostRuntime) -> Result<(), NoMemory> {
     let wrong = "refused types.csv: row 1, column type: not a name\n";
-    expect_case(&rt, alloc, &refused_plan(table.as_str(), wrong))?;
-    let longer = table_of_one_name(alloc, 4_194_305)?;
+    expect_name_refused(&rt, rt.alloc(), 4_194_304, wrong)?;
     let too_long = "refused types.csv: too long\n";
-    expect_case(&rt, alloc, &refused_plan(longer.as_str(), too_long))?;
-    Ok(())
+    expect_name_refused(&rt, rt.alloc(), 4_194_305, too_long)
 }
 
 #[test]
-fn a_plan_names_the_file_that_is_not_there(rt: HostRuntime) -> Result<(), Fail> {
-    expect_case(&rt, rt.alloc(), &without_trips_file())?;
-    Ok(())
+fn a_plan_names_the_file_that_is_not_there(rt: HostRuntime) -> Result<(), NoMemory> {
+    expect_case(&rt, rt.alloc(), WITHOUT_TRIPS_FILE)
+}
+
+/// The status of words over the disk and the standard output.
+fn status_on_disk<R: Files + Print>(rt: &R, alloc: Global, words: &Words) -> Result<u8, NoMemory> {
+    let mut folder = DiskFolder::new(rt);
+    let mut out = StdoutSink::new(rt);
+    run_on_disk(alloc, words, &mut folder, &mut out)
 }
 
 #[test]
-fn a_folder_that_is_not_there_cannot_be_read(rt: HostRuntime) -> Result<(), Fail> {
+fn a_folder_that_is_not_there_cannot_be_read(rt: HostRuntime) -> Result<(), NoMemory> {
     let alloc = rt.alloc();
     let words = words_of(&rt, alloc, &["railplan", "simulate", "/no such folder"])?;
-    let mut folder = DiskFolder::new(&rt);
-    let mut out = StdoutSink::new(&rt);
-    assert!(rt; run_on_disk(alloc, &words, &mut folder, &mut out)? == 5);
+    assert!(rt; status_on_disk(&rt, alloc, &words)? == 5);
     Ok(())
 }

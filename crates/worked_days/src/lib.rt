@@ -18,6 +18,8 @@ mod failure_tests;
 #[cfg(test)]
 mod link_tests;
 #[cfg(test)]
+mod order_tests;
+#[cfg(test)]
 mod plan_tests;
 #[cfg(test)]
 mod refusal_tests;

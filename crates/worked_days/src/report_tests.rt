@@ -1,13 +1,12 @@
 //! Reports on the plan of an answer, and trial days.
 
 use crate::day::{
-    ample_sink, expect_ample, expect_answered, folder_of, one_stays, status_of, two_trips,
+    A_DAY, STAYING, ample_sink, expect_answered, expect_into, expect_words, folder_of, status_of,
 };
 use rail_base::NoMemory;
 use rail_io::MemorySink;
 use std::alloc::Global;
 use std::process::Abort;
-use std::test::Fail;
 
 pub(crate) const ONE_RETURNS: &str =
     "railplan answer 1\noptimal 190\nbranchings 0\nrun 0 0 1\nrun 1 1\ntree\ncost 190 2 2:-45 3:45\nend\n";
@@ -28,51 +27,39 @@ pub(crate) const YARDS: &str =
 
 pub(crate) const COSTS: &str = "part,amount\ncarriage,90\nshortage,0\nshunting,100\ntotal,190\n";
 
-/// Asserts the status and the document of a command on the day on which one unit stays, whose answer is this text.
-fn expect_report(
-    rt: &impl Abort,
-    alloc: Global,
-    command: &str,
-    answer: &str,
-    status: u8,
-    document: &str,
-) -> Result<(), NoMemory> {
-    expect_answered(rt, alloc, command, &one_stays(), answer, status, document)
-}
-
-#[test]
-fn valid_answers_are_reported(rt: HostRuntime) -> Result<(), Fail> {
-    let alloc = rt.alloc();
-    let reports = &[("duties", DUTIES), ("yards", YARDS), ("costs", COSTS)];
-    for (command, table) in reports {
-        expect_report(&rt, alloc, command, ONE_RETURNS, 0, table)?;
-        expect_report(&rt, alloc, command, FIRST_BOUND, 1, "no plan\n")?;
-    }
-    expect_report(
-        &rt,
-        alloc,
+/// Reports on the day on which one unit stays: the command, the answer, the status and the document.
+const REPORTS: &[(&str, &str, u8, &str)] = &[
+    ("duties", ONE_RETURNS, 0, DUTIES),
+    ("yards", ONE_RETURNS, 0, YARDS),
+    ("costs", ONE_RETURNS, 0, COSTS),
+    ("duties", FIRST_BOUND, 1, "no plan\n"),
+    ("yards", FIRST_BOUND, 1, "no plan\n"),
+    ("costs", FIRST_BOUND, 1, "no plan\n"),
+    (
         "yards",
         WRONG_BOUND,
         1,
         "invalid: node 0 says 191, found 190\n",
-    )?;
-    expect_report(
-        &rt,
-        alloc,
+    ),
+    (
         "costs",
         "railplan answer 1\nbounded 121\nbranchings 0\ntree\ncost 121 0\nend\n",
         1,
         "invalid: node 0 says 121, found 120\n",
-    )?;
-    let endless = "railplan answer 1\n";
-    expect_report(
-        &rt,
-        alloc,
+    ),
+    (
         "costs",
-        endless,
+        "railplan answer 1\n",
         3,
         "refused answer.txt: no end line\n",
-    )?;
+    ),
+];
+
+#[test]
+fn valid_answers_are_reported(rt: HostRuntime) -> Result<(), NoMemory> {
+    for (command, answer, status, document) in REPORTS {
+        expect_answered(&rt, rt.alloc(), command, STAYING, answer, *status, document)?;
+    }
     Ok(())
 }
 
@@ -110,11 +97,10 @@ const SHORT_TRIALS: &[(&[&str], u8, &str)] = &[
     ),
 ];
 
-/// Asserts what comes of trial days of two trips.
-fn expect_short_trials(rt: &impl Abort, alloc: Global) -> Result<(), NoMemory> {
+#[test]
+fn short_trial_days_are_planned(rt: HostRuntime) -> Result<(), NoMemory> {
     for &(words, status, document) in SHORT_TRIALS {
-        let mut folder = folder_of(rt, alloc, &two_trips(), Vec::new(alloc))?;
-        expect_ample(rt, alloc, words, &mut folder, status, document)?;
+        expect_words(&rt, rt.alloc(), A_DAY, words, status, document)?;
     }
     Ok(())
 }
@@ -126,29 +112,55 @@ fn trial_status(
     words: &[&str],
     out: &mut MemorySink,
 ) -> Result<u8, NoMemory> {
-    let mut folder = folder_of(rt, alloc, &two_trips(), Vec::new(alloc))?;
+    let mut folder = folder_of(rt, alloc, A_DAY, Vec::new(alloc))?;
     status_of(rt, alloc, words, &mut folder, out)
 }
 
-/// Asserts that a trial day of forty trips comes to a plan or a bound, and to the same when it is planned again.
-fn expect_long_trial(rt: &impl Abort, alloc: Global) -> Result<(), NoMemory> {
-    let words = &["railplan", "trial", "7", "40", "--nodes=60"];
-    let mut first = ample_sink(alloc, 10_000_000)?;
-    let mut second = ample_sink(alloc, 10_000_000)?;
-    let status = trial_status(rt, alloc, words, &mut first)?;
-    assert!(rt; status == 0 || status == 4);
-    assert!(rt; first.written().starts_with(b"trial 7 40\n"));
-    assert!(rt; trial_status(rt, alloc, words, &mut second)? == status);
-    assert!(rt; second.written() == first.written());
+/// Asserts that a trial day by these words comes to this status and this document.
+fn expect_same(
+    rt: &impl Abort,
+    alloc: Global,
+    words: &[&str],
+    status: u8,
+    document: &[u8],
+) -> Result<(), NoMemory> {
+    let mut out = ample_sink(alloc, 10_000_000)?;
+    expect_into(rt, alloc, A_DAY, words, &mut out, status, document)
+}
+
+/// Asserts that a trial day by these words comes to a plan or a bound over a sink, and its document begins with this
+/// line. The answer is the status.
+fn expect_begun(
+    rt: &impl Abort,
+    alloc: Global,
+    words: &[&str],
+    out: &mut MemorySink,
+    line: &[u8],
+) -> Result<u8, NoMemory> {
+    let status = trial_status(rt, alloc, words, out)?;
+    assert!(rt; (status == 0 || status == 4) && out.written().starts_with(line));
+    Ok(status)
+}
+
+/// Asserts that a trial day by these words comes to a plan or a bound, and its document begins with this line. Where it
+/// is told, that comes to the same when it is planned again.
+fn expect_long_trial(
+    rt: &impl Abort,
+    alloc: Global,
+    words: &[&str],
+    line: &[u8],
+    is_repeated: bool,
+) -> Result<(), NoMemory> {
+    let mut out = ample_sink(alloc, 10_000_000)?;
+    let status = expect_begun(rt, alloc, words, &mut out, line)?;
+    if is_repeated {
+        return expect_same(rt, alloc, words, status, out.written());
+    }
     Ok(())
 }
 
-#[test]
-fn trial_days_are_planned(rt: HostRuntime) -> Result<(), Fail> {
-    expect_short_trials(&rt, rt.alloc())?;
-    expect_long_trial(&rt, rt.alloc())?;
-    Ok(())
-}
+/// A trial day of forty trips.
+const FORTY_TRIPS: &[&str] = &["railplan", "trial", "7", "40", "--nodes=60"];
 
 /// The greatest seed and the most trips, with options before and between them.
 const LONGEST_TRIAL: &[&str] = &[
@@ -162,10 +174,12 @@ const LONGEST_TRIAL: &[&str] = &[
 ];
 
 #[test]
-fn the_longest_trial_day_is_planned(rt: HostRuntime) -> Result<(), Fail> {
-    let mut out = ample_sink(rt.alloc(), 10_000_000)?;
-    let status = trial_status(&rt, rt.alloc(), LONGEST_TRIAL, &mut out)?;
-    assert!(rt; status == 0 || status == 4);
-    assert!(rt; out.written().starts_with(b"trial 4294967295 400\n"));
-    Ok(())
+fn a_trial_day_of_forty_trips_is_planned(rt: HostRuntime) -> Result<(), NoMemory> {
+    expect_long_trial(&rt, rt.alloc(), FORTY_TRIPS, b"trial 7 40\n", true)
+}
+
+#[test]
+fn the_longest_trial_day_is_planned(rt: HostRuntime) -> Result<(), NoMemory> {
+    let line = b"trial 4294967295 400\n";
+    expect_long_trial(&rt, rt.alloc(), LONGEST_TRIAL, line, false)
 }

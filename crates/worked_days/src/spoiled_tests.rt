@@ -2,13 +2,16 @@
 //! where what they say is still true, and else they are refused or found wrong.
 
 use crate::day::{
-    AMPLE_ROOM, Day, ample_sink, base_day, both_stay, cheap_shunting, expect_answered, folder_of,
-    folder_with_bytes, northport, one_stays, ring, status_of, two_trips, two_types,
+    AMPLE_ROOM, BASE_DAY, BOTH_STAY, CHEAP_SHUNTING, Day, NORTHPORT, ONE_STAYS, RING, TWO_TRIPS,
+    TWO_TYPES, ample_sink, expect_answered, folder_of, folder_with_bytes, status_of,
 };
 use rail_base::NoMemory;
+use rail_io::{MemoryFolder, MemorySink};
 use std::alloc::Global;
 use std::process::Abort;
-use std::test::Fail;
+
+/// Words that check the answer of a day.
+const CHECK: &[&str] = &["railplan", "check", "day"];
 
 /// The bytes that are put in place of another.
 const OTHERS: [u8; 4] = *b"09-\n";
@@ -20,12 +23,22 @@ struct Known<'a> {
     costs: &'a [i64],
 }
 
+/// What is written over a folder by these words.
+fn written(
+    rt: &impl Abort,
+    alloc: Global,
+    folder: &mut MemoryFolder,
+    words: &[&str],
+) -> Result<Vec<u8>, NoMemory> {
+    let mut out = ample_sink(alloc, 10_000)?;
+    status_of(rt, alloc, words, folder, &mut out)?;
+    Ok(out.written().to_vec(alloc)?)
+}
+
 /// What is written of a day that is planned by these words.
 fn printed(rt: &impl Abort, alloc: Global, day: &Day, words: &[&str]) -> Result<Vec<u8>, NoMemory> {
     let mut folder = folder_of(rt, alloc, day, Vec::new(alloc))?;
-    let mut out = ample_sink(alloc, 10_000)?;
-    status_of(rt, alloc, words, &mut folder, &mut out)?;
-    Ok(out.written().to_vec(alloc)?)
+    written(rt, alloc, &mut folder, words)
 }
 
 /// The bytes as a text.
@@ -116,6 +129,30 @@ fn says_nothing_false(costs: &[i64], status: u8, line: &str) -> bool {
     }
 }
 
+/// Asserts that the answer in a folder is refused, or is invalid, or says what is true of plans that have these costs.
+fn expect_nothing_false_in(
+    rt: &impl Abort,
+    alloc: Global,
+    costs: &[i64],
+    folder: &mut MemoryFolder,
+) -> Result<(), NoMemory> {
+    let mut out = ample_sink(alloc, AMPLE_ROOM)?;
+    expect_nothing_false_into(rt, alloc, costs, folder, &mut out)
+}
+
+/// Asserts likewise, over a sink.
+fn expect_nothing_false_into(
+    rt: &impl Abort,
+    alloc: Global,
+    costs: &[i64],
+    folder: &mut MemoryFolder,
+    out: &mut MemorySink,
+) -> Result<(), NoMemory> {
+    let status = status_of(rt, alloc, CHECK, folder, out)?;
+    assert!(rt; says_nothing_false(costs, status, text_of(rt, out.written())));
+    Ok(())
+}
+
 /// Asserts that bytes are refused as an answer to a day, or are invalid, or say what is true.
 fn expect_nothing_false(
     rt: &impl Abort,
@@ -124,11 +161,16 @@ fn expect_nothing_false(
     answer: &[u8],
 ) -> Result<(), NoMemory> {
     let mut folder = folder_with_bytes(rt, alloc, &known.day, "day/answer.txt", answer)?;
-    let mut out = ample_sink(alloc, AMPLE_ROOM)?;
-    let words = &["railplan", "check", "day"];
-    let status = status_of(rt, alloc, words, &mut folder, &mut out)?;
-    assert!(rt; says_nothing_false(known.costs, status, text_of(rt, out.written())));
-    Ok(())
+    expect_nothing_false_in(rt, alloc, known.costs, &mut folder)
+}
+
+/// The parts of an answer, one after another.
+fn joined(alloc: Global, parts: [&[u8]; 3]) -> Result<Vec<u8>, NoMemory> {
+    let mut answer = Vec::new(alloc);
+    for part in parts {
+        answer.extend_from_slice(part)?;
+    }
+    Ok(answer)
 }
 
 /// Asserts that an answer says nothing false which has other bytes in place of one.
@@ -140,9 +182,7 @@ fn expect_spoiled_byte(
     others: &[u8],
     back: &[u8],
 ) -> Result<(), NoMemory> {
-    let mut answer = front.to_vec(alloc)?;
-    answer.extend_from_slice(others)?;
-    answer.extend_from_slice(back)?;
+    let answer = joined(alloc, [front, others, back])?;
     expect_nothing_false(rt, alloc, known, answer.as_slice())
 }
 
@@ -166,6 +206,23 @@ fn expect_spoiled_bytes(
     Ok(())
 }
 
+/// The answer of these lines, of which the one at a place stands so often.
+fn with_repeated_line(
+    alloc: Global,
+    lines: &[&str],
+    place: usize,
+    times: u32,
+) -> Result<String, NoMemory> {
+    let mut answer = String::new(alloc);
+    for (at, line) in lines.iter().enumerate() {
+        let times = if at == place { times } else { 1 };
+        for _ in 0..times {
+            write!(&mut answer, "{line}\n")?;
+        }
+    }
+    Ok(answer)
+}
+
 /// Asserts that an answer says nothing false where the line at a place stands so often.
 fn expect_repeated_line(
     rt: &impl Abort,
@@ -175,15 +232,34 @@ fn expect_repeated_line(
     place: usize,
     times: u32,
 ) -> Result<(), NoMemory> {
+    let answer = with_repeated_line(alloc, lines, place, times)?;
+    expect_nothing_false(rt, alloc, known, answer.as_bytes())
+}
+
+/// The place of the line that stands at a place where two lines are exchanged.
+fn exchanged(at: usize, one: usize, other: usize) -> usize {
+    if at == one {
+        other
+    } else if at == other {
+        one
+    } else {
+        at
+    }
+}
+
+/// The answer of these lines, of which two stand at one another's places.
+fn with_exchanged_lines(
+    alloc: Global,
+    lines: &[&str],
+    one: usize,
+    other: usize,
+) -> Result<String, NoMemory> {
     let mut answer = String::new(alloc);
     for (at, line) in lines.iter().enumerate() {
-        let times = if at == place { times } else { 1 };
-        for _ in 0..times {
-            answer.push_str(line)?;
-            answer.push('\n')?;
-        }
+        let line = lines.get(exchanged(at, one, other)).unwrap_or(line);
+        write!(&mut answer, "{line}\n")?;
     }
-    expect_nothing_false(rt, alloc, known, answer.as_bytes())
+    Ok(answer)
 }
 
 /// Asserts that an answer says nothing false where two lines stand at one another's places.
@@ -195,18 +271,7 @@ fn expect_exchanged_lines(
     one: usize,
     other: usize,
 ) -> Result<(), NoMemory> {
-    let mut answer = String::new(alloc);
-    for (at, line) in lines.iter().enumerate() {
-        let from = if at == one {
-            other
-        } else if at == other {
-            one
-        } else {
-            at
-        };
-        answer.push_str(lines.get(from).unwrap_or(line))?;
-        answer.push('\n')?;
-    }
+    let answer = with_exchanged_lines(alloc, lines, one, other)?;
     expect_nothing_false(rt, alloc, known, answer.as_bytes())
 }
 
@@ -251,10 +316,24 @@ fn expect_spoiled_lines(
     Ok(())
 }
 
-/// Whether an answer begins with this line under its title.
-fn has_head(alloc: Global, answer: &[u8], head: &str) -> Result<bool, NoMemory> {
+/// Asserts that an answer begins with this line under its title.
+fn expect_head(rt: &impl Abort, alloc: Global, answer: &[u8], head: &str) -> Result<(), NoMemory> {
     let front = format!(in alloc; "railplan answer 1\n{head}\n")?;
-    Ok(answer.starts_with(front.as_bytes()))
+    assert!(rt; answer.starts_with(front.as_bytes()));
+    Ok(())
+}
+
+/// Asserts that an answer begins with this line under its title, and says nothing false however it is spoiled.
+fn expect_spoiled_answer(
+    rt: &impl Abort,
+    alloc: Global,
+    known: &Known,
+    answer: &[u8],
+    head: &str,
+) -> Result<(), NoMemory> {
+    expect_head(rt, alloc, answer, head)?;
+    expect_spoiled_bytes(rt, alloc, known, answer)?;
+    expect_spoiled_lines(rt, alloc, known, text_of(rt, answer))
 }
 
 /// Asserts that what is written of a day begins with this line under its title, and says nothing false however it is
@@ -267,62 +346,70 @@ fn expect_spoiled(
     head: &str,
 ) -> Result<(), NoMemory> {
     let answer = printed(rt, alloc, &known.day, words)?;
-    assert!(rt; has_head(alloc, answer.as_slice(), head)?);
-    expect_spoiled_bytes(rt, alloc, known, answer.as_slice())?;
-    expect_spoiled_lines(rt, alloc, known, text_of(rt, answer.as_slice()))
+    expect_spoiled_answer(rt, alloc, known, answer.as_slice(), head)
 }
 
+/// Words that grant what is usual.
+const USUAL: &[&str] = &["railplan", "plan", "day"];
+
+/// Words that grant one branching alone.
+const FEW: &[&str] = &["railplan", "plan", "day", "--nodes", "1", "--rounds", "0"];
+
+/// Days and the words that plan them.
+const PRINTED: &[(Day<'static>, &[&str])] = &[
+    (BASE_DAY, USUAL),
+    (ONE_STAYS, USUAL),
+    (BOTH_STAY, USUAL),
+    (TWO_TRIPS, USUAL),
+    (TWO_TYPES, USUAL),
+    (RING, USUAL),
+    (NORTHPORT, USUAL),
+    (ONE_STAYS, FEW),
+    (BOTH_STAY, FEW),
+    (CHEAP_SHUNTING, FEW),
+    (NORTHPORT, FEW),
+];
+
 #[test]
-fn printed_answers_are_valid(rt: HostRuntime) -> Result<(), Fail> {
-    let alloc = rt.alloc();
-    let days = [
-        base_day(),
-        one_stays(),
-        both_stay(),
-        two_trips(),
-        two_types(),
-        ring(),
-        northport(),
-    ];
-    for day in &days {
-        expect_valid(&rt, alloc, day, &["railplan", "plan", "day"])?;
+fn printed_answers_are_valid(rt: HostRuntime) -> Result<(), NoMemory> {
+    for (day, words) in PRINTED {
+        expect_valid(&rt, rt.alloc(), day, *words)?;
     }
-    let few = &["railplan", "plan", "day", "--nodes", "1", "--rounds", "0"];
-    for day in [one_stays(), both_stay(), cheap_shunting(), northport()] {
-        expect_valid(&rt, alloc, &day, few)?;
+    Ok(())
+}
+
+/// Days with what is known of them, the words that plan them, and the second line of the answer.
+const SPOILED: &[(Known<'static>, &[&str], &str)] = &[
+    (
+        Known {
+            day: ONE_STAYS,
+            costs: &[190],
+        },
+        USUAL,
+        "optimal 190",
+    ),
+    (
+        Known {
+            day: CHEAP_SHUNTING,
+            costs: &[120, 1060],
+        },
+        FEW,
+        "bounded 100 plan 1060",
+    ),
+    (
+        Known {
+            day: BOTH_STAY,
+            costs: &[],
+        },
+        USUAL,
+        "infeasible",
+    ),
+];
+
+#[test]
+fn spoiled_answers_say_nothing_false(rt: HostRuntime) -> Result<(), NoMemory> {
+    for (known, words, head) in SPOILED {
+        expect_spoiled(&rt, rt.alloc(), known, *words, head)?;
     }
-    Ok(())
-}
-
-#[test]
-fn a_spoiled_optimal_answer_says_nothing_false(rt: HostRuntime) -> Result<(), Fail> {
-    let known = Known {
-        day: one_stays(),
-        costs: &[190],
-    };
-    let usual = &["railplan", "plan", "day"];
-    expect_spoiled(&rt, rt.alloc(), &known, usual, "optimal 190")?;
-    Ok(())
-}
-
-#[test]
-fn a_spoiled_bounded_answer_says_nothing_false(rt: HostRuntime) -> Result<(), Fail> {
-    let known = Known {
-        day: cheap_shunting(),
-        costs: &[120, 1060],
-    };
-    let few = &["railplan", "plan", "day", "--nodes", "1", "--rounds", "0"];
-    expect_spoiled(&rt, rt.alloc(), &known, few, "bounded 100 plan 1060")?;
-    Ok(())
-}
-
-#[test]
-fn a_spoiled_infeasible_answer_says_nothing_false(rt: HostRuntime) -> Result<(), Fail> {
-    let known = Known {
-        day: both_stay(),
-        costs: &[],
-    };
-    let usual = &["railplan", "plan", "day"];
-    expect_spoiled(&rt, rt.alloc(), &known, usual, "infeasible")?;
     Ok(())
 }
