@@ -10,7 +10,7 @@ use crate::kept::{answer_within, is_change, kept_region};
 use crate::telling::told;
 use answer_check::{claim_of, claimed};
 use answer_text::Answer;
-use branch_tree::{Claim, Region};
+use branch_tree::{Claim, Region, Relaxation};
 use cert_check::{Reason, Verdict, checked};
 use price_bound::{Change, DayBounds};
 use rail_base::{CompNo, NoMemory, TripNo};
@@ -36,7 +36,7 @@ struct Row {
 /// T2 costs 7 more with another composition than its base. Where T1 keeps A, or AA, so does T2, since both units are to
 /// be back at X: that costs 1060, or 120. Where a unit is to be left at Y, T2 has fewer units than T1, and there is no
 /// plan in which T1 has A.
-const ROWS: [Row; 4] = [
+const ROWS: &[Row] = &[
     Row {
         texts: TURN,
         kept: 0,
@@ -70,9 +70,8 @@ const ROWS: [Row; 4] = [
 /// What is answered is as the rows say.
 #[test]
 fn kept_trips_are_answered(rt: HostRuntime) -> Result<(), Fail> {
-    let alloc = rt.alloc();
-    for row in &ROWS {
-        let text = told_row(alloc, row)?;
+    for row in ROWS {
+        let text = told_row(rt.alloc(), row)?;
         assert!(rt; text.as_str() == row.text, "{text}");
     }
     Ok(())
@@ -81,39 +80,115 @@ fn kept_trips_are_answered(rt: HostRuntime) -> Result<(), Fail> {
 /// What is answered to a row.
 fn told_row(alloc: Global, row: &Row) -> Result<String, Fail> {
     let day = day_of(alloc, &row.texts)?;
+    told_on(alloc, &day, row)
+}
+
+/// What is answered to a row on its day.
+fn told_on(alloc: Global, day: &Instance, row: &Row) -> Result<String, Fail> {
+    match kept_region(alloc, day, TripNo(0), CompNo(row.kept))? {
+        Some(region) => told_in(alloc, day, region, row),
+        None => Err(Fail::new("T1 has no choice")),
+    }
+}
+
+/// What is answered to a row in a region of its day.
+fn told_in(alloc: Global, day: &Instance, mut region: Region, row: &Row) -> Result<String, Fail>
+    requires over { IsOver (length day.now.trips) (compositions_of day.now) region }
+    requires filled { IsFilled region }
+{
     let change = Change {
         trip: TripNo(1),
         base: CompNo(row.base),
         cost: 7,
     };
-    let Some(mut region) = kept_region(alloc, &day, TripNo(0), CompNo(row.kept))? else {
-        return Err(Fail::new("T1 has no choice"));
-    };
-    if !is_change(&day, &change) {
+    if !is_change(day, &change) {
         return Err(Fail::new("T2 has no such change"));
     }
-    let picks = two_picks(alloc, row.picks)?;
-    let answer = proved_answer(alloc, &day, &[change], &mut region, &picks)?;
-    told(alloc, answer)
+    told_under(alloc, day, &[change], &mut region, row)
 }
 
-/// The answer in a region, where the checker finds it proved with these picks over the same region and changes, and not
-/// proved where it says of another number of branchings; else the test fails.
-fn proved_answer(
+/// What is answered to a row in a region of its day under changes.
+fn told_under(
     alloc: Global,
     day: &Instance,
     changes: &[Change],
     region: &mut Region,
-    picks: &Picks,
-) -> Result<Answer, Fail>
+    row: &Row,
+) -> Result<String, Fail>
     requires changes { AreChanges day.now changes.now }
     requires over { IsOver (length day.now.trips) (compositions_of day.now) region.old }
     requires filled { IsFilled region.old }
 {
     let graphs = Graphs::build(alloc, day)?;
-    let answer = answer_within(alloc, day, &graphs, changes, region, 1)?;
-    let claim = claim_of(&answer, picks);
-    if verdict_told(alloc, day, &graphs, changes, region, &claim)? != "valid" {
+    let asked = Asked {
+        day,
+        graphs: &graphs,
+        changes,
+    };
+    told_along(alloc, asked, region, row)
+}
+
+/// A day with its edges, and the changes under which it is asked about.
+#[derive(Clone, Copy)]
+struct Asked<'a> {
+    day: &'a Instance,
+    graphs: &'a Graphs,
+    changes: &'a [Change],
+}
+
+/// What is answered to a row in a region of its day under changes, where the checker finds it proved.
+fn told_along(
+    alloc: Global,
+    asked: Asked<'_>,
+    region: &mut Region,
+    row: &Row,
+) -> Result<String, Fail>
+    requires graphs { AreGraphs asked.day.now asked.graphs.now }
+    requires changes { AreChanges asked.day.now asked.changes.now }
+    requires over { IsOver (length asked.day.now.trips) (compositions_of asked.day.now) region.old }
+    requires filled { IsFilled region.old }
+{
+    let answer = answer_within(alloc, asked.day, asked.graphs, asked.changes, region, 1)?;
+    expect_proved(alloc, asked, region, &answer, row.picks)?;
+    told(alloc, &answer)
+}
+
+/// Fails the test where the checker doesn't find an answer proved with these picks over the same region and changes.
+fn expect_proved(
+    alloc: Global,
+    asked: Asked<'_>,
+    region: &mut Region,
+    answer: &Answer,
+    compositions: [u32; 2],
+) -> Result<(), Fail>
+    requires graphs { AreGraphs asked.day.now asked.graphs.now }
+    requires changes { AreChanges asked.day.now asked.changes.now }
+    requires over { IsOver (length asked.day.now.trips) (compositions_of asked.day.now) region.old }
+{
+    let picks = two_picks(alloc, compositions)?;
+    expect_verdicts(alloc, asked, region, answer, &picks)
+}
+
+/// Fails the test where the checker doesn't find an answer proved with picks, or finds it proved where it says of another
+/// number of branchings.
+fn expect_verdicts(
+    alloc: Global,
+    asked: Asked<'_>,
+    region: &mut Region,
+    answer: &Answer,
+    picks: &Picks,
+) -> Result<(), Fail>
+    requires graphs { AreGraphs asked.day.now asked.graphs.now }
+    requires changes { AreChanges asked.day.now asked.changes.now }
+    requires over { IsOver (length asked.day.now.trips) (compositions_of asked.day.now) region.old }
+{
+    let Asked {
+        day,
+        graphs,
+        changes,
+    } = asked;
+    let claim = claim_of(answer, picks);
+    if verdict_told(alloc, day, graphs, changes, region, &claim)? != "valid" {
         return Err(Fail::new("the answer is not proved"));
     }
     let other = Claim {
@@ -121,10 +196,10 @@ fn proved_answer(
         branchings: answer.branchings.wrapping_add(1),
         tree: &answer.tree,
     };
-    if verdict_told(alloc, day, &graphs, changes, region, &other)? != "branchings differ" {
+    if verdict_told(alloc, day, graphs, changes, region, &other)? != "branchings differ" {
         return Err(Fail::new("another number of branchings is not found"));
     }
-    Ok(answer)
+    Ok(())
 }
 
 /// What the checker finds of a claim over a region of a day under changes.
@@ -169,12 +244,25 @@ fn verdict_within(
     requires over { IsOver (length day.now.trips) (compositions_of day.now) region.old }
     ensures { region.new ≡ region.old }
 {
-    let mut bounds = DayBounds::with_changes(alloc, day, graphs, changes)?;
+    let bounds = DayBounds::with_changes(alloc, day, graphs, changes)?;
+    verdict_by(alloc, bounds, region, claim)
+}
+
+/// The verdict on a claim over a region, by a relaxation that the region is over.
+fn verdict_by<R: Relaxation + Drop>(
+    alloc: Global,
+    mut bounds: R,
+    region: &mut Region,
+    claim: &Claim<'_>,
+) -> Result<Verdict, NoMemory>
+    requires over { IsOver (R.meanings (R.problem bounds)).trips (R.meanings (R.problem bounds)).catalogue region.old }
+    ensures { region.new ≡ region.old }
+{
     checked(alloc, &mut bounds, region, claim)
 }
 
 /// Picks of two trips.
-fn two_picks(alloc: Global, compositions: [u32; 2]) -> Result<Picks, NoMemory> {
+pub(crate) fn two_picks(alloc: Global, compositions: [u32; 2]) -> Result<Picks, NoMemory> {
     let mut picks = Picks::new(alloc, 2)?;
     picks.set(TripNo(0), CompNo(compositions[0]));
     picks.set(TripNo(1), CompNo(compositions[1]));

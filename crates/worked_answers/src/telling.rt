@@ -1,22 +1,35 @@
 //! Answers as texts: the head, and the units of each trip.
 
 use answer_text::{Answer, Head};
+use rail_base::UnitNo;
 use std::alloc::{AllocError, Global};
 use std::test::Fail;
 
 /// An answer as a text: its head, and after a colon the units of each trip, each after a space, with a comma between
 /// two trips.
-pub(crate) fn told(alloc: Global, answer: Answer) -> Result<String, Fail> {
+pub(crate) fn told(alloc: Global, answer: &Answer) -> Result<String, Fail> {
     let mut text = String::new(alloc);
-    write_head(&mut text, answer.head)?;
-    let lists = answer.runs.into_items();
-    for place in 0..lists.len() {
-        write!(text, "{}", if place == 0 { ":" } else { "," })?;
-        for unit in lists[place].items() {
-            write!(text, " {}", unit.0)?;
-        }
-    }
+    write_answer(&mut text, answer)?;
     Ok(text)
+}
+
+/// Writes an answer.
+fn write_answer(text: &mut String, answer: &Answer) -> Result<(), AllocError> {
+    write_head(text, answer.head)?;
+    let lists = answer.runs.items();
+    for place in 0..lists.len() {
+        text.push_str(if place == 0 { ":" } else { "," })?;
+        write_units(text, lists[place].items())?;
+    }
+    Ok(())
+}
+
+/// Writes units, each after a space.
+fn write_units(text: &mut String, units: &[UnitNo]) -> Result<(), AllocError> {
+    for unit in units {
+        write!(text, " {}", unit.0)?;
+    }
+    Ok(())
 }
 
 /// Writes what an answer says of all plans.
