@@ -15,6 +15,7 @@ use rail_base::limits::MAX_BRANCHINGS;
 use sample_days::{TURN, Texts, day_of};
 use search::{Allowed, Found, solve_with};
 use std::alloc::{AllocError, Global};
+use std::process::Abort;
 use std::test::Fail;
 use timetable::Instance;
 use transitions::Graphs;
@@ -35,8 +36,23 @@ fn text_of(alloc: Global, found: &Found) -> Result<String, AllocError> {
     }
 }
 
-/// What a search of a day finds with an improver and no advisor. So much as a test never grants is refused as want of
-/// memory is.
+/// What a search of a day finds with an improver and no advisor, of as many branchings as may be granted at the most.
+fn searched<I: Improver>(
+    alloc: Global,
+    day: &Instance,
+    graphs: &Graphs,
+    branchings: u32,
+    improver: &mut I,
+) -> Result<Found, NoMemory>
+    requires { AreGraphs day.now graphs.now }
+{
+    let root = Region::root(alloc, day)?;
+    let bounds = DayBounds::new(alloc, day, graphs)?;
+    let most = branchings.min(MAX_BRANCHINGS);
+    found_by(alloc, bounds, &root, most, improver)
+}
+
+/// What a search of a day finds with an improver and no advisor, as a text.
 fn found<I: Improver>(
     alloc: Global,
     day: &Instance,
@@ -46,16 +62,22 @@ fn found<I: Improver>(
 ) -> Result<String, Fail>
     requires { AreGraphs day.now graphs.now }
 {
-    let root = Region::root(alloc, day)?;
-    let bounds = DayBounds::new(alloc, day, graphs)?;
-    let found = found_by(
-        alloc,
-        bounds,
-        &root,
-        branchings.min(MAX_BRANCHINGS),
-        improver,
-    )?;
+    let found = searched(alloc, day, graphs, branchings, improver)?;
     Ok(text_of(alloc, &found)?)
+}
+
+/// The same with an improver that was made.
+fn found_by_made<I: Improver + Drop>(
+    alloc: Global,
+    day: &Instance,
+    graphs: &Graphs,
+    branchings: u32,
+    made: Result<I, NoMemory>,
+) -> Result<String, Fail>
+    requires { AreGraphs day.now graphs.now }
+{
+    let mut improver = made?;
+    found(alloc, day, graphs, branchings, &mut improver)
 }
 
 /// What is found in a root by a relaxation that it is over.
@@ -87,8 +109,8 @@ fn found_along(
 ) -> Result<String, Fail>
     requires { AreGraphs day.now graphs.now }
 {
-    let mut improver = DayImprover::new(alloc, day, graphs, evaluations)?;
-    found(alloc, day, graphs, branchings, &mut improver)
+    let made = DayImprover::new(alloc, day, graphs, evaluations);
+    found_by_made(alloc, day, graphs, branchings, made)
 }
 
 /// What is found with the improver of days.
@@ -108,64 +130,73 @@ fn found_alone(alloc: Global, day: &Instance, branchings: u32) -> Result<String,
     found(alloc, day, &graphs, branchings, &mut NoImprover)
 }
 
+/// Asserts what is found with the improver of days.
+fn expect_found(
+    rt: &impl Abort,
+    alloc: Global,
+    day: &Instance,
+    evaluations: u32,
+    branchings: u32,
+    wanted: &str,
+) -> Result<(), Fail> {
+    let text = found_improved(alloc, day, evaluations, branchings)?;
+    assert!(rt; text.as_str() == wanted, "{text}");
+    Ok(())
+}
+
 /// A day on which one unit more is wanted at the end than there is at the start: no plan of it runs.
-const ONE_TOO_MANY: Texts<'static> = Texts {
+const ONE_TOO_MANY: &Texts<'static> = &Texts {
     stock: b"station,type,start,end\nX,A,2,3\n",
     ..TURN
 };
 
 #[test]
 fn a_day_that_cannot_balance_ends_without_a_branching(rt: HostRuntime) -> Result<(), Fail> {
-    let alloc = rt.alloc();
-    let day = day_of(alloc, &ONE_TOO_MANY)?;
-    let text = found_improved(alloc, &day, 1, 0)?;
-    assert!(rt; text.as_str() == "infeasible, 0", "{text}");
-    Ok(())
+    let day = day_of(rt.alloc(), ONE_TOO_MANY)?;
+    expect_found(&rt, rt.alloc(), &day, 1, 0, "infeasible, 0")
 }
 
 /// How many evaluations and branchings are granted on the trial day of 20 trips, and what is found. The day has a plan
 /// of cost 4880, and none that costs less.
 const TRIALS: &[(u32, u32, &str)] = &[(40, 0, "bounded 4878, 0"), (40, 2, "optimal 4880, 1")];
 
-#[test]
-fn plans_of_a_trial_day(rt: HostRuntime) -> Result<(), Fail> {
-    let alloc = rt.alloc();
-    let day = trial_instance(alloc, 7, 20)?;
-    for (evaluations, branchings, wanted) in TRIALS {
-        assert!(rt;
-            is_found(alloc, &day, *evaluations, *branchings, *wanted)?,
-            "{wanted}"
-        );
+/// Asserts what is found on that day.
+fn expect_trials(rt: &impl Abort, alloc: Global, day: &Instance) -> Result<(), Fail> {
+    for &(evaluations, branchings, wanted) in TRIALS {
+        expect_found(rt, alloc, day, evaluations, branchings, wanted)?;
     }
     Ok(())
 }
 
-/// Whether this is found with the improver of days.
-fn is_found(
-    alloc: Global,
-    day: &Instance,
-    evaluations: u32,
-    branchings: u32,
-    wanted: &str,
-) -> Result<bool, Fail> {
-    let text = found_improved(alloc, day, evaluations, branchings)?;
-    Ok(text.as_str() == wanted)
+#[test]
+fn plans_of_a_trial_day(rt: HostRuntime) -> Result<(), Fail> {
+    let day = trial_instance(rt.alloc(), 7, 20)?;
+    expect_trials(&rt, rt.alloc(), &day)
 }
 
-/// Whether the same is found with an improver without evaluations as without an improver.
-fn is_found_alike(alloc: Global, day: &Instance, branchings: u32) -> Result<bool, Fail> {
+/// Asserts that the same is found with an improver without evaluations as without an improver.
+fn expect_alike(
+    rt: &impl Abort,
+    alloc: Global,
+    day: &Instance,
+    branchings: u32,
+) -> Result<(), Fail> {
     let alone = found_alone(alloc, day, branchings)?;
-    is_found(alloc, day, 0, branchings, alone.as_str())
+    expect_found(rt, alloc, day, 0, branchings, alone.as_str())
+}
+
+/// Asserts that on a day, of none to three branchings.
+fn expect_all_alike(rt: &impl Abort, alloc: Global, day: &Instance) -> Result<(), Fail> {
+    for branchings in 0..4 {
+        expect_alike(rt, alloc, day, branchings)?;
+    }
+    Ok(())
 }
 
 #[test]
 fn no_evaluations_change_nothing(rt: HostRuntime) -> Result<(), Fail> {
-    let alloc = rt.alloc();
-    let day = trial_instance(alloc, 7, 10)?;
-    for branchings in 0..4 {
-        assert!(rt; is_found_alike(alloc, &day, branchings)?, "{branchings}");
-    }
-    Ok(())
+    let day = trial_instance(rt.alloc(), 7, 10)?;
+    expect_all_alike(&rt, rt.alloc(), &day)
 }
 
 /// Keeps what it was told last, and counts how often it was told of a lower bound or a dearer plan than before.
@@ -212,16 +243,21 @@ fn search_watched(
     requires { AreGraphs day.now graphs.now }
 {
     let none: &[Change] = &[];
-    let mut improver = DayImprover::watched(alloc, day, graphs, none, 40, last)?;
-    let _text = found(alloc, day, graphs, branchings, &mut improver)?;
+    let made = DayImprover::watched(alloc, day, graphs, none, 40, last);
+    let _text = found_by_made(alloc, day, graphs, branchings, made)?;
     Ok(())
 }
 
 /// What a watcher was told last in a search of the trial day of 20 trips, as a text.
 fn told(alloc: Global, branchings: u32) -> Result<String, Fail> {
     let day = trial_instance(alloc, 7, 20)?;
-    let graphs = Graphs::build(alloc, &day)?;
-    told_along(alloc, &day, &graphs, branchings)
+    told_on(alloc, &day, branchings)
+}
+
+/// What a watcher was told last in a search of a day, as a text.
+fn told_on(alloc: Global, day: &Instance, branchings: u32) -> Result<String, Fail> {
+    let graphs = Graphs::build(alloc, day)?;
+    told_along(alloc, day, &graphs, branchings)
 }
 
 /// What a watcher was told last in a search of a day with its edges, as a text.
