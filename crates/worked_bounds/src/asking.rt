@@ -22,19 +22,35 @@ pub(crate) fn bound_of<R: Relaxation>(
     weight: Weight,
 ) -> Result<Bound, Fail> {
     let mut best = Picks::new(alloc, bounds.trips())?;
-    for trip in 0..bounds.trips() {
-        if trip < best.len() {
-            best.set(TripNo(trip), CompNo(1));
+    set_seconds(&mut best);
+    let answer = answer_of(bounds, region, multipliers, weight, &mut best)?;
+    Ok(Bound { answer, best })
+}
+
+/// Gives each trip composition 1.
+fn set_seconds(picks: &mut Picks) {
+    for trip in 0..picks.len() {
+        if trip < picks.len() {
+            picks.set(TripNo(trip), CompNo(1));
         }
     }
+}
+
+/// What the bound of a region answers, which leaves its picks.
+fn answer_of<R: Relaxation>(
+    bounds: &mut R,
+    region: &Region,
+    multipliers: &Multipliers,
+    weight: Weight,
+    best: &mut Picks,
+) -> Result<BoundAnswer, Fail> {
     if best.len() != bounds.trips() || region.trips() != bounds.trips() {
         return Err(Fail::new("the region is not one of the day"));
     }
     if !multipliers.fits(bounds.indices(), bounds.free_from()) {
         return Err(Fail::new("the multipliers do not fit"));
     }
-    let answer = bounds.bound(region, multipliers, weight, &mut best);
-    Ok(Bound { answer, best })
+    Ok(bounds.bound(region, multipliers, weight, best))
 }
 
 /// Whether there is a pick for each trip, and the picks follow.

@@ -6,18 +6,18 @@
 
 ghost use Rattle.transitions.specs.Edges.{AreGraphs};
 
-use crate::asking::{bound_of, do_follow, multipliers_of, picks_of, settled, slacks_of};
+use crate::asking::{Bound, bound_of, do_follow, multipliers_of, picks_of, settled, slacks_of};
 use crate::changed::bounds_under;
 use crate::exchange_days::{EARLY_EXCHANGE, EXCHANGE};
 use crate::telling::{write_picks, write_slacks};
-use branch_tree::{Cut, Region, Relaxation, Side, Weight};
+use branch_tree::{Cut, Multipliers, Region, Relaxation, Side, Slacks, Weight};
 use price_bound::Change;
 use rail_base::{CompNo, TripNo, TypeNo};
 use sample_days::{ONE_LEFT, RING, TURN, TWO_TYPES, Texts, day_of};
 use std::alloc::Global;
 use std::process::Abort;
 use std::test::Fail;
-use timetable::Instance;
+use timetable::{Instance, Picks};
 use transitions::Graphs;
 
 /// The day of a turn, where both units are wanted at Y at the end.
@@ -464,9 +464,24 @@ fn told_of<R: Relaxation>(
             multipliers,
             weight,
         ),
-        Asked::Settled(comps) => told_of_settling(alloc, bounds, comps),
-        Asked::Follow(comps) => told_of_links(alloc, bounds, comps),
-        Asked::Slacks(comps) => told_of_slacks(alloc, bounds, comps),
+        Asked::Settled(comps) | Asked::Follow(comps) | Asked::Slacks(comps) => {
+            told_of_picks(alloc, bounds, &picks_of(alloc, comps)?, asked)
+        }
+    }
+}
+
+/// What a relaxation of a day answers of picks; nothing where a bound is asked for.
+fn told_of_picks<R: Relaxation>(
+    alloc: Global,
+    bounds: &mut R,
+    picks: &Picks,
+    asked: &Asked,
+) -> Result<String, Fail> {
+    match *asked {
+        Asked::Settled(_) => told_of_settling(alloc, bounds, picks),
+        Asked::Follow(_) => told_of_links(alloc, bounds, picks),
+        Asked::Slacks(_) => told_of_slacks(alloc, bounds, picks),
+        Asked::Bound { .. } => Ok(String::new(alloc)),
     }
 }
 
@@ -479,7 +494,23 @@ fn told_of_bound<R: Relaxation>(
     weight: Weight,
 ) -> Result<String, Fail> {
     let multipliers = multipliers_of(alloc, multipliers)?;
-    let bound = bound_of(alloc, bounds, region, &multipliers, weight)?;
+    told_under_multipliers(alloc, bounds, region, &multipliers, weight)
+}
+
+/// What a bound of a region answers under multipliers, and the picks that it leaves.
+fn told_under_multipliers<R: Relaxation>(
+    alloc: Global,
+    bounds: &mut R,
+    region: &Region,
+    multipliers: &Multipliers,
+    weight: Weight,
+) -> Result<String, Fail> {
+    let bound = bound_of(alloc, bounds, region, multipliers, weight)?;
+    bound_text(alloc, &bound)
+}
+
+/// A bound as a text.
+fn bound_text(alloc: Global, bound: &Bound) -> Result<String, Fail> {
     let mut text = format!(in alloc; "{:?} by", bound.answer)?;
     write_picks(&mut text, &bound.best)?;
     Ok(text)
@@ -489,17 +520,15 @@ fn told_of_bound<R: Relaxation>(
 fn told_of_settling<R: Relaxation>(
     alloc: Global,
     bounds: &mut R,
-    comps: &[u32],
+    picks: &Picks,
 ) -> Result<String, Fail> {
-    let picks = picks_of(alloc, comps)?;
-    let settled = settled(bounds, &picks)?;
+    let settled = settled(bounds, picks)?;
     Ok(format!(in alloc; "{settled:?}")?)
 }
 
 /// Whether there is a pick for each trip, and the picks follow.
-fn told_of_links<R: Relaxation>(alloc: Global, bounds: &R, comps: &[u32]) -> Result<String, Fail> {
-    let picks = picks_of(alloc, comps)?;
-    let follow = do_follow(bounds, &picks);
+fn told_of_links<R: Relaxation>(alloc: Global, bounds: &R, picks: &Picks) -> Result<String, Fail> {
+    let follow = do_follow(bounds, picks);
     Ok(format!(in alloc; "{follow}")?)
 }
 
@@ -507,12 +536,16 @@ fn told_of_links<R: Relaxation>(alloc: Global, bounds: &R, comps: &[u32]) -> Res
 fn told_of_slacks<R: Relaxation>(
     alloc: Global,
     bounds: &mut R,
-    comps: &[u32],
+    picks: &Picks,
 ) -> Result<String, Fail> {
-    let picks = picks_of(alloc, comps)?;
-    let slacks = slacks_of(alloc, bounds, &picks)?;
+    let slacks = slacks_of(alloc, bounds, picks)?;
+    slacks_text(alloc, &slacks)
+}
+
+/// Slacks as a text.
+fn slacks_text(alloc: Global, slacks: &Slacks) -> Result<String, Fail> {
     let mut text = String::new(alloc);
-    write_slacks(&mut text, &slacks)?;
+    write_slacks(&mut text, slacks)?;
     Ok(text)
 }
 

@@ -124,19 +124,24 @@ fn course_along(
     requires asked { All (λ advisor. asked advisor ≤ 2 ^ 63) advisors.old.items }
 {
     let found = found_on(alloc, day, graphs, search.grant, search.rounds, advisors)?;
-    Ok(text_of(alloc, &found, advisors.as_slice())?)
+    text_of(alloc, &found, advisors.as_slice())
 }
 
 /// What was found, and of each advisor how often it was asked, and whether it has quit.
-fn text_of(
-    alloc: Global,
+fn text_of(alloc: Global, found: &Found, advisors: &[Box<dyn Advisor>]) -> Result<String, Fail> {
+    let mut text = String::new(alloc);
+    write_course(&mut text, found, advisors)?;
+    Ok(text)
+}
+
+/// Writes that.
+fn write_course(
+    text: &mut String,
     found: &Found,
     advisors: &[Box<dyn Advisor>],
-) -> Result<String, AllocError> {
-    let mut text = String::new(alloc);
-    write_found(&mut text, found)?;
-    write_asked(&mut text, advisors)?;
-    Ok(text)
+) -> Result<(), AllocError> {
+    write_found(text, found)?;
+    write_asked(text, advisors)
 }
 
 /// What is found on a day. So much as a test never grants is refused as want of memory is.
