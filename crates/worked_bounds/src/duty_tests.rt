@@ -62,9 +62,12 @@ fn duties_of(alloc: Global, texts: &Texts<'_>, plan: &[u8]) -> Result<String, Fa
     duties_on(alloc, &day, plan)
 }
 
+/// The day on which one unit is left, to be borrowed.
+const LEFT: &Texts<'static> = &ONE_LEFT;
+
 #[test]
 fn duties_with_places(rt: HostRuntime) -> Result<(), Fail> {
-    let text = duties_of(rt.alloc(), &ONE_LEFT, b"trip,units\nT1,0 1\nT2,1\n")?;
+    let text = duties_of(rt.alloc(), LEFT, b"trip,units\nT1,0 1\nT2,1\n")?;
     assert!(rt; text.as_str() == "0: 0/0\n1: 0/1 1/0\n", "{text}");
     Ok(())
 }
@@ -206,16 +209,47 @@ fn named_from(alloc: Global, day: &Instance, picks: &Picks, minute: Minute) -> R
     Ok(text)
 }
 
+/// Asserts the plan that is named for picks, and then again from a minute on.
+fn expect_named_from(
+    rt: &impl Abort,
+    alloc: Global,
+    day: &Instance,
+    picks: &Picks,
+    minute: Minute,
+) -> Result<(), Fail>
+    requires picks { ArePicks day.now picks.now }
+    requires admissible { AreAdmissible day.now picks.now }
+{
+    let text = named_from(alloc, day, picks, minute)?;
+    assert!(rt; text.as_str() == "0: 0 1\n1: 1 0\n", "{text}");
+    Ok(())
+}
+
+/// Asserts that for picks, from each of some minutes on.
+fn expect_named(rt: &impl Abort, alloc: Global, day: &Instance, picks: &Picks) -> Result<(), Fail>
+    requires picks { ArePicks day.now picks.now }
+    requires admissible { AreAdmissible day.now picks.now }
+{
+    for minute in [0, 480, 481, 541, 570, 571] {
+        expect_named_from(rt, alloc, day, picks, Minute(minute))?;
+    }
+    Ok(())
+}
+
+/// Asserts that on a day of a turn that exchanges units.
+fn expect_named_on(rt: &impl Abort, alloc: Global, day: &Instance) -> Result<(), Fail> {
+    let picks = running_picks(rt, alloc, day, 2, 3)?;
+    expect_named(rt, alloc, day, &picks)
+}
+
+/// The day of a turn that exchanges units, to be borrowed.
+const EXCHANGED: &Texts<'static> = &EXCHANGE;
+
 // From any minute on the rule goes on as it began, also while a unit is on its way or not ready yet.
 #[test]
 fn units_are_named_from_a_minute_on(rt: HostRuntime) -> Result<(), Fail> {
-    let day = day_of(rt.alloc(), &EXCHANGE)?;
-    let picks = running_picks(&rt, rt.alloc(), &day, 2, 3)?;
-    for minute in [0, 480, 481, 541, 570, 571] {
-        let text = named_from(rt.alloc(), &day, &picks, Minute(minute))?;
-        assert!(rt; text.as_str() == "0: 0 1\n1: 1 0\n", "{text}");
-    }
-    Ok(())
+    let day = day_of(rt.alloc(), EXCHANGED)?;
+    expect_named_on(&rt, rt.alloc(), &day)
 }
 
 /// What naming units tells for A on the first trip and AA on the second, for which the yards have a fault.
@@ -227,7 +261,7 @@ fn named_at_fault(rt: &impl Abort, alloc: Global, texts: &Texts<'_>) -> Result<S
 // One unit goes out and two come back, so that the turn is broken and the yard of Y is short too.
 #[test]
 fn broken_link_told_before_a_fault(rt: HostRuntime) -> Result<(), Fail> {
-    let text = named_at_fault(&rt, rt.alloc(), &ONE_LEFT)?;
+    let text = named_at_fault(&rt, rt.alloc(), LEFT)?;
     assert!(rt; text.as_str() == "LinkBroken(LinkNo(0))", "{text}");
     Ok(())
 }

@@ -90,6 +90,9 @@ fn sides_told(alloc: Global, texts: &Texts<'_>, cut: &Cut) -> Result<String, Fai
     sides_of(alloc, &day, cut)
 }
 
+/// The day of two types, to be borrowed.
+const DAY: &Texts<'static> = &TWO_TYPES;
+
 #[test]
 fn cuts_of_the_root(rt: HostRuntime) -> Result<(), Fail> {
     let cut = Cut::AtMost {
@@ -97,7 +100,7 @@ fn cuts_of_the_root(rt: HostRuntime) -> Result<(), Fail> {
         unit_type: TypeNo(0),
         count: 0,
     };
-    let text = sides_told(rt.alloc(), &TWO_TYPES, &cut)?;
+    let text = sides_told(rt.alloc(), DAY, &cut)?;
     assert!(rt; text.as_str() == " 1 4\n 0 2 3\n 0 1 2 3 4\n", "{text}");
     Ok(())
 }
