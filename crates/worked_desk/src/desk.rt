@@ -45,6 +45,30 @@ fn add_day(
     add(rt, alloc, files, &rows)
 }
 
+/// The files of the tables of a day, and more files by their paths.
+fn files_of(
+    rt: &impl Abort,
+    alloc: Global,
+    texts: &Texts<'_>,
+    more: &[(&str, &[u8])],
+) -> Result<Vec<MemoryFile>, NoMemory> {
+    let mut files = Vec::new(alloc);
+    add_all(rt, alloc, &mut files, texts, more)?;
+    Ok(files)
+}
+
+/// Adds those files.
+fn add_all(
+    rt: &impl Abort,
+    alloc: Global,
+    files: &mut Vec<MemoryFile>,
+    texts: &Texts<'_>,
+    more: &[(&str, &[u8])],
+) -> Result<(), NoMemory> {
+    add_day(rt, alloc, files, texts)?;
+    add(rt, alloc, files, more)
+}
+
 /// The folder `day` with the tables of a day, whose reads fail at these numbers.
 pub(crate) fn folder_of(
     rt: &impl Abort,
@@ -63,20 +87,24 @@ pub(crate) fn folder_with(
     more: &[(&str, &[u8])],
     failing: &[u64],
 ) -> Result<MemoryFolder, NoMemory> {
-    let mut files = Vec::new(alloc);
-    add_day(rt, alloc, &mut files, texts)?;
-    add(rt, alloc, &mut files, more)?;
+    let files = files_of(rt, alloc, texts, more)?;
     MemoryFolder::new(alloc, files, failing.to_vec(alloc)?)
 }
 
 /// The words of a command line.
 pub(crate) fn words_of(rt: &impl Abort, alloc: Global, texts: &[&str]) -> Result<Words, NoMemory> {
     let mut words = Words::new(alloc)?;
+    add_words(rt, &mut words, texts)?;
+    Ok(words)
+}
+
+/// Adds words.
+fn add_words(rt: &impl Abort, words: &mut Words, texts: &[&str]) -> Result<(), NoMemory> {
     for text in texts {
         assert!(rt; words.len() < 1000);
         words.push(*text)?;
     }
-    Ok(words)
+    Ok(())
 }
 
 /// One of the two programs.
@@ -113,10 +141,7 @@ pub(crate) fn ample_sink(alloc: Global) -> Result<MemorySink, NoMemory> {
 /// The words after the program's name, with that before them.
 fn words_after_name(rt: &impl Abort, alloc: Global, words: &[&str]) -> Result<Words, NoMemory> {
     let mut given = words_of(rt, alloc, &["program"])?;
-    for word in words {
-        assert!(rt; given.len() < 1000);
-        given.push(*word)?;
-    }
+    add_words(rt, &mut given, words)?;
     Ok(given)
 }
 
@@ -155,11 +180,8 @@ pub(crate) fn expect_over(
     status: u8,
     document: &str,
 ) -> Result<(), NoMemory> {
-    let mut out = ample_sink(alloc)?;
-    let found = status_of(rt, alloc, Program::Raildesk, words, folder, &mut out)?;
-    assert!(rt; out.written() == document.as_bytes(), "{document}");
-    assert!(rt; found == status, "{document}");
-    Ok(())
+    let run = (Program::Raildesk, words);
+    expect_written(rt, alloc, folder, run, status, document.as_bytes())
 }
 
 /// Asserts the status of the desk over a folder, and how the document begins.
@@ -173,9 +195,21 @@ pub(crate) fn expect_front(
 ) -> Result<(), NoMemory> {
     let mut out = ample_sink(alloc)?;
     let found = status_of(rt, alloc, Program::Raildesk, words, folder, &mut out)?;
-    assert!(rt; out.written().starts_with(front.as_bytes()), "{front}");
-    assert!(rt; found == status, "{front}");
+    expect_begun(rt, found == status, out.written(), front);
     Ok(())
+}
+
+/// Asserts that a status is right, and what is written begins with a front.
+fn expect_begun(rt: &impl Abort, has_status: bool, written: &[u8], front: &str) {
+    assert!(rt;
+        written.starts_with(front.as_bytes()) && has_status,
+        "{front}"
+    );
+}
+
+/// Asserts that a status is right, and all that is written.
+fn expect_document(rt: &impl Abort, has_status: bool, written: &[u8], document: &[u8]) {
+    assert!(rt; written == document && has_status, "{document:?}");
 }
 
 /// Asserts that a run over a folder, a program and its words, writes this and ends with this status.
@@ -189,8 +223,7 @@ pub(crate) fn expect_written(
 ) -> Result<(), NoMemory> {
     let mut out = ample_sink(alloc)?;
     let found = status_of(rt, alloc, run.0, run.1, folder, &mut out)?;
-    assert!(rt; out.written() == document);
-    assert!(rt; found == status);
+    expect_document(rt, found == status, out.written(), document);
     Ok(())
 }
 

@@ -6,7 +6,6 @@ use rail_io::MemoryFolder;
 use sample_days::{TURN, Texts};
 use std::alloc::Global;
 use std::process::Abort;
-use std::test::Fail;
 
 /// The day of two trips where no unit may stand.
 const NO_UNITS: Texts<'static> = Texts {
@@ -86,14 +85,16 @@ const CASES: &[Run<'static>] = &[
 ];
 
 #[test]
-fn fleets_are_found_or_refused(rt: HostRuntime) -> Result<(), Fail> {
-    expect_runs(&rt, rt.alloc(), CASES)?;
-    Ok(())
+fn fleets_are_found_or_refused(rt: HostRuntime) -> Result<(), NoMemory> {
+    expect_runs(&rt, rt.alloc(), CASES)
 }
+
+/// The day of two trips, to be borrowed.
+const DAY: &Texts<'static> = &TURN;
 
 /// The folder of the day of two trips and of prices.
 fn folder_at(rt: &impl Abort, alloc: Global, prices: &[u8]) -> Result<MemoryFolder, NoMemory> {
-    folder_with(rt, alloc, &TURN, &[("day/fleet.csv", prices)], &[])
+    folder_with(rt, alloc, DAY, &[("day/fleet.csv", prices)], &[])
 }
 
 /// Words where no branching is granted and two units may be bought at 1000 each, a beginning, and whether the
@@ -142,7 +143,7 @@ fn expect_advised(
 }
 
 #[test]
-fn evaluations_and_rounds_are_granted(rt: HostRuntime) -> Result<(), Fail> {
+fn evaluations_and_rounds_are_granted(rt: HostRuntime) -> Result<(), NoMemory> {
     for (words, beginning, begins) in ADVISED {
         expect_advised(&rt, rt.alloc(), *words, *beginning, *begins)?;
     }
@@ -160,11 +161,16 @@ const OTHER_WORDS: &[&[&str]] = &[
     &["fleet", "day", "--progress"],
 ];
 
+/// Asserts that words are of no plain form.
+fn expect_no_fleet(rt: &impl Abort, alloc: Global, words: &[&str]) -> Result<(), NoMemory> {
+    let mut folder = folder_at(rt, alloc, b"type,cost\nA,500\n")?;
+    expect_over(rt, alloc, &mut folder, words, 2, "usage\n")
+}
+
 #[test]
-fn other_words_find_no_fleet(rt: HostRuntime) -> Result<(), Fail> {
+fn other_words_find_no_fleet(rt: HostRuntime) -> Result<(), NoMemory> {
     for words in OTHER_WORDS {
-        let mut folder = folder_at(&rt, rt.alloc(), b"type,cost\nA,500\n")?;
-        expect_over(&rt, rt.alloc(), &mut folder, *words, 2, "usage\n")?;
+        expect_no_fleet(&rt, rt.alloc(), *words)?;
     }
     Ok(())
 }

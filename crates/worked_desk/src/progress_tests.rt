@@ -85,12 +85,23 @@ fn count_told(
     Ok(())
 }
 
+/// Counts likewise, by words as they are given.
+fn count_by(
+    rt: &impl Abort,
+    alloc: Global,
+    texts: &Texts<'_>,
+    words: &[&str],
+    count: &mut Count,
+) -> Result<(), NoMemory> {
+    let words = words_of(rt, alloc, words)?;
+    count_told(rt, alloc, texts, &words, count)
+}
+
 #[test]
 fn progress_is_told_where_it_is_asked_for(rt: HostRuntime) -> Result<(), Fail> {
     for (texts, words, is_told) in TOLD {
-        let words = words_of(&rt, rt.alloc(), *words)?;
         let mut count = Count { times: 0 };
-        count_told(&rt, rt.alloc(), texts, &words, &mut count)?;
+        count_by(&rt, rt.alloc(), texts, *words, &mut count)?;
         assert!(rt; (count.times > 0) == *is_told);
     }
     Ok(())

@@ -6,7 +6,6 @@ use rail_io::MemorySink;
 use sample_days::{TURN, Texts};
 use std::alloc::{AllocError, Global};
 use std::process::Abort;
-use std::test::Fail;
 
 /// The plan in which one unit makes both trips, where two are wanted on the first.
 const ONE_UNIT: &[u8] = b"trip,units\nT1,0\nT2,0\n";
@@ -176,10 +175,9 @@ const ANSWERED: &[Run<'static>] = &[
 ];
 
 #[test]
-fn the_rest_of_a_day_is_planned(rt: HostRuntime) -> Result<(), Fail> {
+fn the_rest_of_a_day_is_planned(rt: HostRuntime) -> Result<(), NoMemory> {
     expect_runs(&rt, rt.alloc(), PLANNED)?;
-    expect_runs(&rt, rt.alloc(), ANSWERED)?;
-    Ok(())
+    expect_runs(&rt, rt.alloc(), ANSWERED)
 }
 
 /// Trips as of `TURN` in the morning and once more at noon.
@@ -332,12 +330,17 @@ fn expect_printed(
     expect_ran(rt, alloc, later, table.as_str(), *ran)
 }
 
+/// Asserts that the plan that is printed of a row runs in the later day.
+fn expect_running(rt: &impl Abort, alloc: Global, row: &Ran) -> Result<(), NoMemory> {
+    let mut out = ample_sink(alloc)?;
+    replan(rt, alloc, row, &mut out)?;
+    expect_printed(rt, alloc, row, out.written())
+}
+
 #[test]
-fn what_is_printed_runs_in_the_later_day(rt: HostRuntime) -> Result<(), Fail> {
+fn what_is_printed_runs_in_the_later_day(rt: HostRuntime) -> Result<(), NoMemory> {
     for row in RAN {
-        let mut out = ample_sink(rt.alloc())?;
-        replan(&rt, rt.alloc(), row, &mut out)?;
-        expect_printed(&rt, rt.alloc(), row, out.written())?;
+        expect_running(&rt, rt.alloc(), row)?;
     }
     Ok(())
 }

@@ -1,8 +1,8 @@
 //! Units that are swapped at the desk.
 
 use crate::desk::{Run, expect_runs};
+use rail_base::NoMemory;
 use sample_days::{TURN, Texts};
-use std::test::Fail;
 
 /// One trip from X to Y with one of the two units that stand at X.
 const ONE_TRIP: Texts<'static> = Texts {
@@ -159,7 +159,7 @@ const FAILED_READS: &[Run<'static>] = &[
 const RUNS: &[&[Run<'static>]] = &[BROUGHT, WRONG_TABLES, PLANS, FAILED_READS];
 
 #[test]
-fn urgent_units_are_brought_or_a_file_is_named(rt: HostRuntime) -> Result<(), Fail> {
+fn urgent_units_are_brought_or_a_file_is_named(rt: HostRuntime) -> Result<(), NoMemory> {
     for runs in RUNS {
         expect_runs(&rt, rt.alloc(), *runs)?;
     }

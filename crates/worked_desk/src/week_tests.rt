@@ -7,7 +7,6 @@ use rail_io::{MemoryFile, MemoryFolder};
 use sample_days::{ONE_LEFT, TURN, Texts};
 use std::alloc::Global;
 use std::process::Abort;
-use std::test::Fail;
 
 /// The day of two trips with other types, with another station, with three units wanted in the evening, and with trips
 /// in the night after it, of which the second arrives half an hour before the first trip of the next day leaves.
@@ -206,7 +205,7 @@ fn expect_case(rt: &impl Abort, alloc: Global, case: &Case<'_>) -> Result<(), No
 }
 
 #[test]
-fn weeks_are_planned_or_refused(rt: HostRuntime) -> Result<(), Fail> {
+fn weeks_are_planned_or_refused(rt: HostRuntime) -> Result<(), NoMemory> {
     for case in CASES {
         expect_case(&rt, rt.alloc(), case)?;
     }
@@ -280,7 +279,7 @@ fn expect_whole(
 }
 
 #[test]
-fn weeks_are_written_whole(rt: HostRuntime) -> Result<(), Fail> {
+fn weeks_are_written_whole(rt: HostRuntime) -> Result<(), NoMemory> {
     for (days, words, status, document) in WHOLE {
         expect_whole(&rt, rt.alloc(), *days, *words, *status, *document)?;
     }
@@ -302,7 +301,7 @@ const OTHER_WORDS: &[&[&str]] = &[
 const TWO_DAYS: &[Texts<'static>] = &[TURN, TURN];
 
 #[test]
-fn other_words_plan_no_week(rt: HostRuntime) -> Result<(), Fail> {
+fn other_words_plan_no_week(rt: HostRuntime) -> Result<(), NoMemory> {
     for words in OTHER_WORDS {
         expect_whole(&rt, rt.alloc(), TWO_DAYS, *words, 2, "usage\n")?;
     }

@@ -1,9 +1,11 @@
 //! Words that the desk understands, and words that it doesn't.
 
 use crate::desk::expect;
-use sample_days::TURN;
-use std::process::Abort;
-use std::test::Fail;
+use rail_base::NoMemory;
+use sample_days::{TURN, Texts};
+
+/// The day of a turn, to be borrowed.
+const DAY: &Texts<'static> = &TURN;
 
 /// Words of the plain form of `plan`, in any order, with numbers at their limits and with zeros in front.
 const PLAIN_WORDS: &[&[&str]] = &[
@@ -31,11 +33,11 @@ const PLAIN_WORDS: &[&[&str]] = &[
 ];
 
 #[test]
-fn words_in_any_order_plan_a_day(rt: HostRuntime) -> Result<(), Fail> {
+fn words_in_any_order_plan_a_day(rt: HostRuntime) -> Result<(), NoMemory> {
     let answer =
         "railplan answer 1\noptimal 120\nbranchings 0\nrun 0 0 1\nrun 1 1 0\ntree\ncost 120 0\nend\n";
     for words in PLAIN_WORDS {
-        expect(&rt, rt.alloc(), &TURN, *words, 0, answer)?;
+        expect(&rt, rt.alloc(), DAY, *words, 0, answer)?;
     }
     Ok(())
 }
@@ -76,9 +78,9 @@ const OTHER_WORDS: &[&[&str]] = &[
 ];
 
 #[test]
-fn other_words_are_not_understood(rt: HostRuntime) -> Result<(), Fail> {
+fn other_words_are_not_understood(rt: HostRuntime) -> Result<(), NoMemory> {
     for words in OTHER_WORDS {
-        expect(&rt, rt.alloc(), &TURN, *words, 2, "usage\n")?;
+        expect(&rt, rt.alloc(), DAY, *words, 2, "usage\n")?;
     }
     Ok(())
 }
