@@ -9,7 +9,7 @@ use Rattle.timetable.specs.Day.{Day}
 use Rattle.timetable.proofs.Picking.{types_known}
 use Rattle.branch_tree.specs.declared.multipliers.Entry.{Entry}
 use Rattle.branch_tree.specs.Entries.{AreMultipliers}
-use Rattle.price_bound.specs.declared.credits.Kept.{Kept}
+use Rattle.price_bound.specs.declared.credits.Summed.{Summed}
 use Rattle.price_bound.specs.declared.credits.UnitSums.{UnitSums}
 use Rattle.price_bound.specs.declared.price_tables.PriceTables.{PriceTables}
 use Rattle.price_bound.specs.Credits.{AreAllByType, AreRowsBut, AreSumsBelow, AreSumsFor}
@@ -70,18 +70,18 @@ summed_size day amounts t table new size is = record {
 }
 
 -- one row more
-pub below_more : (day : Day) (region : List (List Bool)) (kept new_kept : List Kept) (amounts table new : List (List ℤ)) (trip : ℕ)
-    → AreSumsBelow day region kept amounts trip table
-    → AreSumsFor day region new_kept (get_or amounts trip []) trip (get_or new trip [])
-    → ((other : ℕ) → other ≢ trip → is_whole new_kept other ≡ is_whole kept other) → AreRowsBut trip table new
-    → AreSumsBelow day region new_kept amounts (trip + 1) new
-below_more day region kept new_kept amounts table new trip done here same_kept others t lt = elim (cases_eq t trip) [
-  | inl same ↦ subst (λ (k : ℕ). AreSumsFor day region new_kept (get_or amounts k []) k (get_or new k [])) (sym same) here
+pub below_more : (day : Day) (region : List (List Bool)) (summed new_summed : List Summed) (amounts table new : List (List ℤ)) (trip : ℕ)
+    → AreSumsBelow day region summed amounts trip table
+    → AreSumsFor day region new_summed (get_or amounts trip []) trip (get_or new trip [])
+    → ((other : ℕ) → other ≢ trip → is_whole new_summed other ≡ is_whole summed other) → AreRowsBut trip table new
+    → AreSumsBelow day region new_summed amounts (trip + 1) new
+below_more day region summed new_summed amounts table new trip done here same_summed others t lt = elim (cases_eq t trip) [
+  | inl same ↦ subst (λ (k : ℕ). AreSumsFor day region new_summed (get_or amounts k []) k (get_or new k [])) (sym same) here
   | inr differ ↦
       let row : get_or table t [] ≡ get_or new t [] = sym (others t differ) in
-      let before : AreSumsFor day region kept (get_or amounts t []) t (get_or table t []) = done t (omega (arith, lt, differ)) in
+      let before : AreSumsFor day region summed (get_or amounts t []) t (get_or table t []) = done t (omega (arith, lt, differ)) in
       record {
-        whole = λ c below is. subst (IsSumAt day (get_or amounts t []) c) row (before.whole c below (sym (same_kept t differ) ∙ is));
+        whole = λ c below is. subst (IsSumAt day (get_or amounts t []) c) row (before.whole c below (sym (same_summed t differ) ∙ is));
         members = λ c below is. subst (IsSumAt day (get_or amounts t []) c) row (before.members c below is);
       }
 ]
@@ -92,8 +92,8 @@ pub trips_more : (day : Day) (region : List (List Bool)) (gives takes : List (Li
     → AreTripSums day region gives takes (trip + 1) new
 trips_more day region gives takes trip sums new done put = record {
   room = put.room;
-  credits = below_more day region sums.kept.items new.kept.items gives sums.credits new.credits trip done.credits put.credits put.other_kept put.other_credits;
-  debits = below_more day region sums.kept.items new.kept.items takes sums.debits new.debits trip done.debits put.debits put.other_kept put.other_debits;
+  credits = below_more day region sums.summed.items new.summed.items gives sums.credits new.credits trip done.credits put.credits put.other_summed put.other_credits;
+  debits = below_more day region sums.summed.items new.summed.items takes sums.debits new.debits trip done.debits put.debits put.other_summed put.other_debits;
 }
 
 -- ---- the credits and the debits
@@ -122,7 +122,7 @@ module _ (day : Day) (region : List (List Bool)) (entries : List Entry) (tables 
 
   pub sums_priced : AreSumsPriced day region entries sums
   sums_priced = record {
-    kept = are.room.kept;
+    summed = are.room.summed;
     credits = record {
       sized = are.room.credits;
       whole = λ t c lt below is. credit_at t c lt below ((are.credits t lt).whole c below is);

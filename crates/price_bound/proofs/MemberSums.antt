@@ -61,7 +61,7 @@ module _ (day : Day) (gives takes : List ℤ) (t : ℕ) (member : ℕ → Bool) 
   pub none_put : HaveSumRoom day sums → AreMembersPut day gives takes t member 0 sums sums
   none_put room = record {
     room = room;
-    kept = refl;
+    summed = refl;
     credits = λ c lt listed is. absurd (omega (arith, lt));
     debits = λ c lt listed is. absurd (omega (arith, lt));
     other_credits = λ other differ. refl;
@@ -74,7 +74,7 @@ module _ (day : Day) (gives takes : List ℤ) (t : ℕ) (member : ℕ → Bool) 
       → AreMembersPut day gives takes t member to sums new
   members_on from to new done none = record {
     room = done.room;
-    kept = done.kept;
+    summed = done.summed;
     credits = member_on day gives member (get_or new.credits t []) from to done.credits none;
     debits = member_on day takes member (get_or new.debits t []) from to done.debits none;
     other_credits = done.other_credits;
@@ -96,9 +96,9 @@ module _ (day : Day) (gives takes : List ℤ) (t : ℕ) (member : ℕ → Bool) 
               (put_size (length day.trips) (suc (length (compositions_of day))) before.credits credits_room t comp credit);
           debits = subst (HasSize (length day.trips) (suc (length (compositions_of day)))) (sym put.debits)
               (put_size (length day.trips) (suc (length (compositions_of day))) before.debits debits_room t comp debit);
-          kept = ap length put.kept ∙ done.room.kept;
+          summed = ap length put.summed ∙ done.room.summed;
         };
-        kept = put.kept ∙ done.kept;
+        summed = put.summed ∙ done.summed;
         credits = subst (λ (table : List (List ℤ)). AreMemberSums day gives member (suc comp) (get_or table t [])) (sym put.credits)
             (member_put day t before.credits credits_room known gives member comp credit inside refl
             (sum_of_comp_small gives day comp inside by_gives.sized by_gives.small) done.credits);

@@ -6,8 +6,8 @@ use Rattle.timetable.specs.Day.{Day}
 use Rattle.branch_tree.specs.declared.multipliers.Entry.{Entry}
 use Rattle.branch_tree.specs.IntSums.{int_sum}
 use Rattle.branch_tree.specs.Regions.{has}
-use Rattle.price_bound.specs.declared.credits.Kept.{Kept}
-use Rattle.price_bound.specs.declared.credits.Kept.TheVariants.{Members, Whole, Many}
+use Rattle.price_bound.specs.declared.credits.Summed.{Summed}
+use Rattle.price_bound.specs.declared.credits.Summed.TheVariants.{Members, Whole, Many}
 use Rattle.price_bound.specs.declared.credits.UnitSums.{UnitSums}
 use Rattle.price_bound.specs.CellSizes.{IsSmall, most_price, most_units_price}
 use Rattle.price_bound.specs.PriceTables.{HasSize, amount_at}
@@ -61,13 +61,13 @@ pub record HasSumRoom (day : Day) (t : ℕ) (table : List (List ℤ)) : Type 0 w
   pub long : length (get_or table t []) ≡ suc (length (compositions_of day))
 
 -- a trip has the sums of all compositions
-abbrev pub is_of_all : Kept → Bool
+abbrev pub is_of_all : Summed → Bool
 is_of_all Members = false
 is_of_all Whole = true
 is_of_all Many = true
 
-abbrev pub is_whole : List Kept → ℕ → Bool
-is_whole kept t = is_of_all (get_or kept t Members)
+abbrev pub is_whole : List Summed → ℕ → Bool
+is_whole summed t = is_of_all (get_or summed t Members)
 
 -- a row has the sum over the types of a composition
 pub record IsSumAt (day : Day) (amounts : List ℤ) (c : ℕ) (row : List ℤ) : Type 0 where
@@ -79,29 +79,29 @@ abbrev pub AreMemberSums : Day → List ℤ → (ℕ → Bool) → ℕ → List 
 AreMemberSums day amounts member comps row =
     (c : ℕ) → c < comps → c < length (compositions_of day) → member c ≡ true → IsSumAt day amounts c row
 
--- it has those that a trip keeps in a region: those of all compositions, or of the members of its set
-pub record AreSumsFor (day : Day) (region : List (List Bool)) (kept : List Kept) (amounts : List ℤ) (t : ℕ)
+-- it has those that a trip has in a region: those of all compositions, or of the members of its set
+pub record AreSumsFor (day : Day) (region : List (List Bool)) (summed : List Summed) (amounts : List ℤ) (t : ℕ)
     (row : List ℤ) : Type 0 where
-  pub whole : (c : ℕ) → c < length (compositions_of day) → is_whole kept t ≡ true → IsSumAt day amounts c row
+  pub whole : (c : ℕ) → c < length (compositions_of day) → is_whole summed t ≡ true → IsSumAt day amounts c row
   pub members : (c : ℕ) → c < length (compositions_of day) → has region t c ≡ true → IsSumAt day amounts c row
 
 -- a table has them in the rows below a number
-abbrev pub AreSumsBelow : Day → List (List Bool) → List Kept → List (List ℤ) → ℕ → List (List ℤ) → Type 0
-AreSumsBelow day region kept amounts trips table =
-    (t : ℕ) → t < trips → AreSumsFor day region kept (get_or amounts t []) t (get_or table t [])
+abbrev pub AreSumsBelow : Day → List (List Bool) → List Summed → List (List ℤ) → ℕ → List (List ℤ) → Type 0
+AreSumsBelow day region summed amounts trips table =
+    (t : ℕ) → t < trips → AreSumsFor day region summed (get_or amounts t []) t (get_or table t [])
 
 -- there is room for the sums of each trip and composition, and a place more for no units
 pub record HaveSumRoom (day : Day) (sums : UnitSums) : Type 0 where
   pub credits : HasSize (length day.trips) (suc (length (compositions_of day))) sums.credits
   pub debits : HasSize (length day.trips) (suc (length (compositions_of day))) sums.debits
-  pub kept : length sums.kept.items ≡ length day.trips
+  pub summed : length sums.summed.items ≡ length day.trips
 
 -- the sums of the first trips are there, of what they give and take units for
 pub record AreTripSums (day : Day) (region : List (List Bool)) (gives takes : List (List ℤ)) (trips : ℕ)
     (sums : UnitSums) : Type 0 where
   pub room : HaveSumRoom day sums
-  pub credits : AreSumsBelow day region sums.kept.items gives trips sums.credits
-  pub debits : AreSumsBelow day region sums.kept.items takes trips sums.debits
+  pub credits : AreSumsBelow day region sums.summed.items gives trips sums.credits
+  pub debits : AreSumsBelow day region sums.summed.items takes trips sums.debits
 
 -- the rows of a table but one are those of another
 abbrev pub AreRowsBut : ℕ → List (List ℤ) → List (List ℤ) → Type 0
@@ -115,7 +115,7 @@ pub record IsRowSummed (day : Day) (amounts : List ℤ) (t : ℕ) (table new : L
 
 -- the sums of a composition are put for a trip
 pub record AreSumsPut (day : Day) (gives takes : List ℤ) (t c : ℕ) (sums new : UnitSums) : Type 0 where
-  pub kept : new.kept.items ≡ sums.kept.items
+  pub summed : new.summed.items ≡ sums.summed.items
   pub credits : new.credits ≡ put_in t c (sum_in gives (composition_at day c)) sums.credits
   pub debits : new.debits ≡ put_in t c (sum_in takes (composition_at day c)) sums.debits
 
@@ -123,7 +123,7 @@ pub record AreSumsPut (day : Day) (gives takes : List ℤ) (t c : ℕ) (sums new
 pub record AreMembersPut (day : Day) (gives takes : List ℤ) (t : ℕ) (member : ℕ → Bool) (comps : ℕ)
     (sums new : UnitSums) : Type 0 where
   pub room : HaveSumRoom day new
-  pub kept : new.kept.items ≡ sums.kept.items
+  pub summed : new.summed.items ≡ sums.summed.items
   pub credits : AreMemberSums day gives member comps (get_or new.credits t [])
   pub debits : AreMemberSums day takes member comps (get_or new.debits t [])
   pub other_credits : AreRowsBut t sums.credits new.credits
@@ -133,9 +133,9 @@ pub record AreMembersPut (day : Day) (gives takes : List ℤ) (t : ℕ) (member 
 pub record IsTripPut (day : Day) (region : List (List Bool)) (gives takes : List ℤ) (t : ℕ) (sums new : UnitSums)
     : Type 0 where
   pub room : HaveSumRoom day new
-  pub credits : AreSumsFor day region new.kept.items gives t (get_or new.credits t [])
-  pub debits : AreSumsFor day region new.kept.items takes t (get_or new.debits t [])
-  pub other_kept : (other : ℕ) → other ≢ t → is_whole new.kept.items other ≡ is_whole sums.kept.items other
+  pub credits : AreSumsFor day region new.summed.items gives t (get_or new.credits t [])
+  pub debits : AreSumsFor day region new.summed.items takes t (get_or new.debits t [])
+  pub other_summed : (other : ℕ) → other ≢ t → is_whole new.summed.items other ≡ is_whole sums.summed.items other
   pub other_credits : AreRowsBut t sums.credits new.credits
   pub other_debits : AreRowsBut t sums.debits new.debits
 
@@ -144,11 +144,11 @@ pub record IsUnitPrice (day : Day) (price : ℕ → List ℕ → ℤ) (table : L
   pub value : amount_at table t c ≡ price t (composition_at day c)
   pub small : IsSmall most_units_price (amount_at table t c)
 
--- it has it for each trip and composition that the trip keeps in a region, and a place more for no units
-pub record AreUnitPrices (day : Day) (region : List (List Bool)) (kept : List Kept) (price : ℕ → List ℕ → ℤ)
+-- it has it for each trip and composition for which the trip has sums in a region, and a place more for no units
+pub record AreUnitPrices (day : Day) (region : List (List Bool)) (summed : List Summed) (price : ℕ → List ℕ → ℤ)
     (table : List (List ℤ)) : Type 0 where
   pub sized : HasSize (length day.trips) (suc (length (compositions_of day))) table
-  pub whole : (t c : ℕ) → t < length day.trips → c < length (compositions_of day) → is_whole kept t ≡ true
+  pub whole : (t c : ℕ) → t < length day.trips → c < length (compositions_of day) → is_whole summed t ≡ true
       → IsUnitPrice day price table t c
   pub members : (t c : ℕ) → t < length day.trips → c < length (compositions_of day) → has region t c ≡ true
       → IsUnitPrice day price table t c
@@ -156,6 +156,6 @@ pub record AreUnitPrices (day : Day) (region : List (List Bool)) (kept : List Ke
 -- the credits and the debits under multipliers
 pub record AreSumsPriced (day : Day) (region : List (List Bool)) (entries : List Entry) (sums : UnitSums)
     : Type 0 where
-  pub kept : length sums.kept.items ≡ length day.trips
-  pub credits : AreUnitPrices day region sums.kept.items (giving day entries) sums.credits
-  pub debits : AreUnitPrices day region sums.kept.items (taking day entries) sums.debits
+  pub summed : length sums.summed.items ≡ length day.trips
+  pub credits : AreUnitPrices day region sums.summed.items (giving day entries) sums.credits
+  pub debits : AreUnitPrices day region sums.summed.items (taking day entries) sums.debits

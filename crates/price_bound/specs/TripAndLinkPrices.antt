@@ -55,9 +55,9 @@ pub record IsForTurn (prices : TurnPrices) : Type 0 where
   pub takes : prices.takes.now ≡ get_or prices.pricing.now.tables.now.takes prices.turn.departing []
   pub gives : prices.gives.now ≡ get_or prices.pricing.now.tables.now.gives prices.turn.arriving []
   pub credits : prices.credits.now ≡ get_or prices.pricing.now.sums.now.credits prices.turn.arriving []
-  pub has_credits : prices.has_credits ≡ is_whole prices.pricing.now.sums.now.kept.items prices.turn.arriving
+  pub has_credits : prices.has_credits ≡ is_whole prices.pricing.now.sums.now.summed.items prices.turn.arriving
   pub debits : prices.debits.now ≡ get_or prices.pricing.now.sums.now.debits prices.turn.departing []
-  pub has_debits : prices.has_debits ≡ is_whole prices.pricing.now.sums.now.kept.items prices.turn.departing
+  pub has_debits : prices.has_debits ≡ is_whole prices.pricing.now.sums.now.summed.items prices.turn.departing
 
 -- the price of the units that come with an edge of a turn, where they are taken, less their price where they would be
 -- given

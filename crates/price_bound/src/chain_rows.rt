@@ -365,7 +365,7 @@ fn passed_turn(pricing: &Pricing<'_>, link: &Link) -> Option<PlainTurn>
     requires priced { ArePriced pricing.now }
     requires link { IsLinkAt pricing.now.instance.now link.now }
     ensures plain { IfSome result (IsPlain link.now) }
-    ensures whole { IfSome result (λ turn. is_whole pricing.now.sums.now.kept.items turn.departing ≡ true) }
+    ensures whole { IfSome result (λ turn. is_whole pricing.now.sums.now.summed.items turn.departing ≡ true) }
 {
     let turn = plain_turn(link)?;
     if pricing.sums.is_whole(turn.departing) {
@@ -399,7 +399,7 @@ fn fill_by_prices(
     pricing: &Pricing<'_>,
     trip: TripNo,
     link: LinkNo,
-    is_narrow: bool,
+    has_few: bool,
     row: &mut CellRow,
     ahead: &CellRow,
 )
@@ -424,11 +424,11 @@ fn fill_by_prices(
                 couple: kind.coupling_end(),
             };
             let prices = TurnPrices::new(pricing, link, turn);
-            fill_by_edges(&prices, edges, &priced_costs, is_narrow, row, ahead);
+            fill_by_edges(&prices, edges, &priced_costs, has_few, row, ahead);
         }
         Some(second) => {
             let prices = PartPrices::new(pricing, link, second);
-            fill_by_edges(&prices, edges, &priced_costs, is_narrow, row, ahead);
+            fill_by_edges(&prices, edges, &priced_costs, has_few, row, ahead);
         }
     }
 }

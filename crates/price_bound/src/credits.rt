@@ -1,10 +1,10 @@
 //! Credits and debits: for each trip and composition the price of the composition's units, where the trip gives them,
 //! and where it takes them.
 //!
-//! They are made once for each list of multipliers, so that few edges sum up the units of whole trains: for all
-//! compositions of a trip where these are asked for, and else for the members of the trip's set. A composition is
-//! one without the unit at its rear, which has a lower number or no units, and that unit: so each sum takes one step. A
-//! row has one place more than there are compositions, for no units.
+//! They are made once for each bound, so that few edges sum up the units of whole trains: for all compositions of a
+//! trip where these are asked for, and else for the members of the trip's set. A composition is one without the unit at
+//! its rear, which has a lower number or no units, and that unit: so each sum takes one step. A row has one place more
+//! than there are compositions, for no units.
 
 ghost use Rattle.std.specs.Prelude.{◌≡◌, ◌<◌, ◌+◌, ◌*◌, [], get_or, suc, length, true, IfOk, IsTrue};
 ghost use Rattle.rules.specs.declared.records.End.TheVariants as at;
@@ -29,7 +29,7 @@ use rail_base::{CompNo, NoMemory, TripNo, TypeNo};
 use std::alloc::Global;
 use timetable::Instance;
 
-/// A region has few compositions for a trip where so many times their number is less than that of all compositions.
+/// A region has few compositions for a trip where so many times their number is at most that of all compositions.
 const FEW: usize = 8;
 
 /// What a unit of each type costs, where a trip gives it and where the trip takes it.
@@ -72,12 +72,12 @@ pub(crate) struct UnitSums {
     /// The same, where the trip takes them.
     pub debits: AmountTable,
     /// For which compositions each trip has them.
-    pub kept: Vec<Kept>,
+    pub summed: Vec<Summed>,
 }
 
 /// For which compositions a trip has the prices of units.
 #[derive(Clone, Copy)]
-pub(crate) enum Kept {
+pub(crate) enum Summed {
     /// For the members of the trip's set, which are few.
     Members,
     /// For all, since a link leads to the trip from one for which the region has many compositions.
@@ -95,35 +95,35 @@ impl UnitSums {
         let comps = instance.catalogue().len() as usize;
         let credits = AmountTable::new(alloc, trips, comps + 1)?;
         let debits = AmountTable::new(alloc, trips, comps + 1)?;
-        let kept = vec![in alloc; Kept::Members; trips]?;
+        let summed = vec![in alloc; Summed::Members; trips]?;
         Ok(UnitSums {
             credits,
             debits,
-            kept,
+            summed,
         })
     }
 
     /// Whether a trip has the prices of all compositions.
     pub(crate) fn is_whole(&self, trip: TripNo) -> bool
-        requires { trip < length self.now.kept.items }
-        ensures { result ≡ is_whole self.now.kept.items trip }
+        requires { trip < length self.now.summed.items }
+        ensures { result ≡ is_whole self.now.summed.items trip }
     {
-        match self.kept[trip.place()] {
-            Kept::Members => false,
-            Kept::Whole => true,
-            Kept::Many => true,
+        match self.summed[trip.place()] {
+            Summed::Members => false,
+            Summed::Whole => true,
+            Summed::Many => true,
         }
     }
 
     /// Whether the region has many compositions for a trip. Then the trip has the prices of all.
     pub(crate) fn has_many(&self, trip: TripNo) -> bool
-        requires { trip < length self.now.kept.items }
-        ensures { IsTrue result → is_whole self.now.kept.items trip ≡ true }
+        requires { trip < length self.now.summed.items }
+        ensures { IsTrue result → is_whole self.now.summed.items trip ≡ true }
     {
-        match self.kept[trip.place()] {
-            Kept::Members => false,
-            Kept::Whole => false,
-            Kept::Many => true,
+        match self.summed[trip.place()] {
+            Summed::Members => false,
+            Summed::Whole => false,
+            Summed::Many => true,
         }
     }
 
@@ -150,10 +150,10 @@ impl UnitSums {
             gives: tables.gives.row(row).items(),
             takes: tables.takes.row(row).items(),
         };
-        let kept = asked_for(instance, region, trip, trains.fronts.len());
-        self.kept[row] = kept;
-        match kept {
-            Kept::Members => self.put_members(instance, region.set(trip), trip, &prices),
+        let summed = asked_for(instance, region, trip, trains.fronts.len());
+        self.summed[row] = summed;
+        match summed {
+            Summed::Members => self.put_members(instance, region.set(trip), trip, &prices),
             _ => self.put_all(instance, trains, trip, &prices),
         }
     }
@@ -221,6 +221,9 @@ impl UnitSums {
     {
         prove!(instance.catalogue().len() as usize <= MAX_COMPOSITIONS);
         let word = set.words()[place];
+        if word == 0 {
+            return;
+        }
         let begin = (place * WORD_BITS) as u32;
         let end = (begin + WORD_BITS as u32).min(instance.catalogue().len());
         let mut left = word;
@@ -251,21 +254,21 @@ impl UnitSums {
 }
 
 /// For which of so many compositions the sums of a trip are asked for.
-fn asked_for(instance: &Instance, region: &Region, trip: TripNo, comps: usize) -> Kept
+fn asked_for(instance: &Instance, region: &Region, trip: TripNo, comps: usize) -> Summed
     requires region { length region.now ≡ length instance.now.trips }
     requires trip { trip < length instance.now.trips }
 {
     if has_many(region.set(trip), comps) {
-        return Kept::Many;
+        return Summed::Many;
     }
     let Some(link) = instance.incoming(trip) else {
-        return Kept::Members;
+        return Summed::Members;
     };
     let before = instance.link(link).kind.leads_from();
     if has_many(region.set(before), comps) {
-        return Kept::Whole;
+        return Summed::Whole;
     }
-    Kept::Members
+    Summed::Members
 }
 
 /// Whether a set has many of so many compositions. That it has so many of the first ones is seen at once.
@@ -278,6 +281,9 @@ fn has_many(set: &CompositionSet, comps: usize) -> bool {
     let used = words.len().min(comps / WORD_BITS + 1);
     let mut left = many;
     for place in 0..used {
+        if words[place] == 0 {
+            continue;
+        }
         let ones = words[place].count_ones() as usize;
         if left <= ones {
             return true;

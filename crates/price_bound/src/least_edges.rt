@@ -112,7 +112,7 @@ pub(crate) fn fill_by_edges<P: EdgePrices>(
     prices: &P,
     edges: &[Edge],
     priced_costs: &PricedCosts<'_>,
-    is_narrow: bool,
+    has_few: bool,
     row: &mut CellRow,
     ahead: &CellRow,
 )
@@ -128,7 +128,7 @@ pub(crate) fn fill_by_edges<P: EdgePrices>(
     ensures row { row.new ≡ all_bare (row_on (P.priced prices.now) priced_costs.now.trip ahead.now) }
     ensures small { IsSmallStep most_step ahead.now row.new }
 {
-    if is_narrow {
+    if has_few {
         fill_by_members(prices, edges, priced_costs, row, ahead);
         return;
     }

@@ -168,8 +168,8 @@ impl<'a> Passes<'a> {
             turn.uncouple turn.couple }
         requires arriving { turn.arriving < length pricing.now.instance.now.trips }
         requires departing { turn.departing < length pricing.now.instance.now.trips }
-        requires credits { is_whole pricing.now.sums.now.kept.items turn.arriving ≡ true }
-        requires debits { is_whole pricing.now.sums.now.kept.items turn.departing ≡ true }
+        requires credits { is_whole pricing.now.sums.now.summed.items turn.arriving ≡ true }
+        requires debits { is_whole pricing.now.sums.now.summed.items turn.departing ≡ true }
         ensures pricing { result.pricing.now ≡ pricing.now }
         ensures link { result.link ≡ link }
         ensures turn { result.turn ≡ turn }

@@ -12,7 +12,7 @@ pub new-passes-requires-clause-credits : goal.new-passes-requires-clause-credits
 new-passes-requires-clause-credits c =
     let plain : IsPlain c.link-link_at.result.now c.in-Some.turn = c.in-Some.ensures.plain in
     let leads = c.requires.leads c.args.link c.link-link_at.result.now c.requires.link c.link-link_at.ensures.value in
-    subst (λ (t : ℕ). is_whole c.args.pricing.now.sums.now.kept.items t ≡ true) (sym leads.0 ∙ ap leads_from plain.kind)
+    subst (λ (t : ℕ). is_whole c.args.pricing.now.sums.now.summed.items t ≡ true) (sym leads.0 ∙ ap leads_from plain.kind)
     (c.has_many-has_many.ensures c.if-not-has_many.false)
 
 pub fill_by_passes-requires-clause-arriving : goal.fill_by_passes-requires-clause-arriving
