@@ -1,6 +1,6 @@
 -- The least values over a tree of numbers, by two passes. One from the lowest number on finds for each the least over
 -- those that it is made of; one from the highest down finds the least over those that are made of it.
-use Rattle.std.proofs.Common.{◌≡◌, ◌≢◌, ℕ, suc, ◌<◌, ◌≤◌, ◌⊎◌, Bool, true, false, refl, sym, ap, ◌∙◌, subst, arith}
+use Rattle.std.proofs.Common.{◌≡◌, ◌≢◌, ℕ, zero, suc, ◌<◌, ◌≤◌, ◌⊎◌, Bool, true, false, refl, sym, ap, ◌∙◌, subst, arith}
 use Rattle.std.proofs.Common.{ℤ, ◌+ℤ◌, ◌≤ℤ◌, inl, inr, int_lt}
 use Rattle.std.specs.Prelude.{if◌then◌else◌}
 use Rattle.std.proofs.lemmas.Bool.{cases_eq}
@@ -17,6 +17,22 @@ pub record IsTree (Of : ℕ → ℕ → Type 0) (rest : ℕ → ℕ) (n : ℕ) :
   pub root : (a : ℕ) → Of n a → ⊥
   pub join : (c q p : ℕ) → q < n → p < n → rest q ≡ p → Of c q → Of c p
   pub along : (c p : ℕ) → Of c p → (c ≡ p) ⊎ ((q : ℕ) × (q < n) × (rest q ≡ p) × Of c q)
+
+-- no number is made of a higher one
+pub made_of_lower : (Of : ℕ → ℕ → Type 0) (rest : ℕ → ℕ) (n : ℕ) → IsTree Of rest n → (c a : ℕ) → c < n → Of c a → a ≤ c
+made_of_lower Of rest n tree c a below of = below_all (suc c) c (omega arith) below of
+  where
+    below_all : (k c : ℕ) → c < k → c < n → Of c a → a ≤ c
+    below_all zero c under below of = absurd (omega (arith, under))
+    below_all (suc k) c under below of = elim (tree.parts c a below of) [
+      | inl same ↦ omega (arith, same)
+      | inr rests ↦ elim (tree.falls c below) [
+        | inl down ↦
+            let fewer : a ≤ rest c = below_all k (rest c) (omega (arith, under, down)) (omega (arith, down, below)) rests in
+            omega (arith, down, fewer)
+        | inr top ↦ absurd (tree.root a (subst (λ (p : ℕ). Of p a) top rests))
+      ]
+    ]
 
 -- ---- the lower of two
 
@@ -148,12 +164,6 @@ module _ (Of : ℕ → ℕ → Type 0) (rest : ℕ → ℕ) (n : ℕ) (tree : Is
   -- the values while numbers from a place on are done
   pub record AreDown (from : ℕ) (longer : ℕ → ℤ) : Type 0 where
     pub each : (p : ℕ) → p ≤ n → IsLeastOver (IsOver Of rest n from p) value none (longer p)
-
-  pub down_none : (longer : ℕ → ℤ) → ((p : ℕ) → p ≤ n → none ≤ℤ longer p) → AreDown n longer
-  down_none longer high = record {
-    each = λ p within. least_of_none (IsOver Of rest n n p) value none (longer p) (high p within)
-        (λ c over. absurd (omega (arith, over.1, over.2)));
-  }
 
   module _ (at : ℕ) (below : at < n) where
     rest_within : rest at ≤ n

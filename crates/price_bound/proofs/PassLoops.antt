@@ -17,11 +17,13 @@ use Rattle.price_bound.specs.ChainStages.{Priced, cost_on, may_have, priced_cost
 use Rattle.price_bound.specs.CompositionTrees.{IsMadeOf, place_at}
 use Rattle.price_bound.specs.HeldValues.{HoldsCell, least_none, no_value}
 use Rattle.price_bound.specs.LeastOverTrees.{lower}
-use Rattle.price_bound.specs.PassValues.{AreAhead, AreLonger, ArePassValues, AreShorter, IsForPasses, comps_for}
-use Rattle.price_bound.specs.PassValues.{most_held, most_summed, priced_for, value_at}
+use Rattle.price_bound.specs.PassValues.{AreAhead, AreLonger, ArePassValues, AreShorter, IsEndAhead, IsForPasses}
+use Rattle.price_bound.specs.PassValues.{comps_for, most_held, most_summed, no_sum, priced_for, value_at}
 use Rattle.price_bound.specs.Regrouped.{trip_value}
-use Rattle.price_bound.proofs.CompositionTrees.{composition_tree, least_fewer_of, least_more_of, turned_back, turned_once}
-use Rattle.price_bound.proofs.LeastOverTrees.{AreDown, AreUp, IsTree, LowerCase, down_none, down_one, first, lower_case, second, up_one, up_rest}
+use Rattle.price_bound.proofs.CompositionTrees.{composition_tree, least_fewer_of, least_more_of, made_of_listed, turned_back}
+use Rattle.price_bound.proofs.CompositionTrees.{turned_once}
+use Rattle.price_bound.proofs.LeastOverTrees.{AreDown, AreUp, IsTree, LowerCase, down_one, first, lower_case, made_of_lower, second}
+use Rattle.price_bound.proofs.LeastOverTrees.{up_one, up_rest}
 use Rattle.price_bound.proofs.PassValues.{held_turning, least_turning, offered_small}
 
 -- for each composition that is another one below a number after a reversal, and may run on the arriving trip, the value
@@ -60,6 +62,9 @@ sum_fits a b small small_too =
     let p = small.above in let q = small.below in let r = small_too.above in let s = small_too.below in
     record { above = omega (arith, ints, p, r); below = omega (arith, ints, q, s) }
 
+sum_high : (a b : ℤ) → no_value ≤ℤ a → IsSmall 6000000000000000 b → no_sum ≤ℤ (a +ℤ b)
+sum_high a b high small = let p = small.above in omega (arith, ints, high, p)
+
 level : (x y : ℤ) → x ≡ y → y ≤ℤ x
 level x y e = omega (arith, ints, e)
 
@@ -91,22 +96,35 @@ module _ (passes : Passes) (is : IsForPasses passes) (ahead : List ℤ) (are : A
   tree_on = composition_tree (priced_for passes).day passes.turn.couple longer_of is.on
 
   abbrev Down : ℕ → List ℤ → Type 0
-  Down from longer = AreDown (IsMadeOf (priced_for passes).day passes.turn.couple) longer_of comps tree_on debited no_value from (value_at longer)
+  Down from longer = AreDown (IsMadeOf (priced_for passes).day passes.turn.couple) longer_of comps tree_on debited no_sum from (value_at longer)
 
   abbrev Up : ℕ → List ℤ → Type 0
-  Up at shorter = AreUp (IsMadeOf (priced_for passes).day passes.turn.uncouple) shorter_of comps tree_off credited no_value at (value_at shorter)
+  Up at shorter = AreUp (IsMadeOf (priced_for passes).day passes.turn.uncouple) shorter_of comps tree_off credited no_sum at (value_at shorter)
 
   -- ---- downwards
 
-  pub longer_none : (longer : List ℤ) → length longer ≡ suc comps → ((comp : ℕ) → comp ≤ comps → value_at longer comp ≡ no_value)
-      → AreLonger passes ahead comps longer
-  longer_none longer long none =
-      let down : Down comps longer =
-      down_none (IsMadeOf (priced_for passes).day passes.turn.couple) longer_of comps tree_on debited no_value (value_at longer)
-      (λ comp within. level (value_at longer comp) no_value (none comp within)) in
-      record { long = long; least = down.each; small = λ comp within. high (value_at longer comp) (none comp within) }
+  -- a composition that is made of one from the end of the row ahead on has no cell, so that its sum is high
+  high_from : (end : ℕ) → IsEndAhead passes ahead end → (comp from : ℕ) → IsMadeOf (priced_for passes).day passes.turn.couple comp from → end ≤ from
+      → no_sum ≤ℤ debited comp
+  high_from end past comp from of under =
+      let listed : comp < comps = made_of_listed (priced_for passes).day passes.turn.couple comp from of in
+      let within : from ≤ comp = made_of_lower (IsMadeOf (priced_for passes).day passes.turn.couple) longer_of comps tree_on comp from listed of in
+      let high : no_value ≤ℤ value_at ahead comp =
+      subst (HoldsCell no_value (value_at ahead comp)) (past.none comp (omega (arith, within, under))) (are.is.holds comp listed) in
+      sum_high (value_at ahead comp) (value_at passes.debits.now comp) high (is.sums.debits_small comp listed)
+
+  pub longer_none : (end : ℕ) → IsEndAhead passes ahead end → (longer : List ℤ) → length longer ≡ suc comps
+      → ((comp : ℕ) → comp ≤ comps → value_at longer comp ≡ no_sum) → AreLonger passes ahead end longer
+  longer_none end past longer long none = record {
+    long = long;
+    least = λ comp within. record {
+      reached = inl (level (value_at longer comp) no_sum (none comp within));
+      below = λ a over. subst (λ (x : ℤ). x ≤ℤ debited a) (sym (none comp within)) (high_from end past a over.0 over.4 over.1);
+    };
+    small = λ comp within. high (value_at longer comp) (none comp within);
+  }
     where
-      high : (x : ℤ) → x ≡ no_value → IsSmall most_summed x
+      high : (x : ℤ) → x ≡ no_sum → IsSmall most_summed x
       high x e = record { above = omega (arith, ints, e); below = omega (arith, ints, e) }
 
   pub debited_small : (at : ℕ) → at < comps → IsSmall most_summed (debited at)
@@ -128,7 +146,7 @@ module _ (passes : Passes) (is : IsForPasses passes) (ahead : List ℤ) (are : A
       ap (λ (xs : List ℤ). value_at xs comp) made ∙ get_or-set_other longer rest comp put (pos 0) differ in
       let before : Down (suc at) longer = record { each = done.least } in
       let after : Down at new =
-      down_one (IsMadeOf (priced_for passes).day passes.turn.couple) longer_of comps tree_on debited no_value at below (value_at longer) (value_at new)
+      down_one (IsMadeOf (priced_for passes).day passes.turn.couple) longer_of comps tree_on debited no_sum at below (value_at longer) (value_at new)
       before here others in
       let put_small : IsSmall most_summed put =
       lower_small most_summed (value_at longer rest) (lower (value_at longer at) (debited at)) (done.small rest rest_within)
@@ -144,7 +162,7 @@ module _ (passes : Passes) (is : IsForPasses passes) (ahead : List ℤ) (are : A
 
   -- ---- upwards
 
-  pub shorter_none : (shorter : List ℤ) → length shorter ≡ suc comps → value_at shorter comps ≡ no_value → AreShorter passes ahead 0 shorter
+  pub shorter_none : (shorter : List ℤ) → length shorter ≡ suc comps → value_at shorter comps ≡ no_sum → AreShorter passes ahead 0 shorter
   shorter_none shorter long root = record {
     long = long;
     root = root;
@@ -153,7 +171,7 @@ module _ (passes : Passes) (is : IsForPasses passes) (ahead : List ℤ) (are : A
   }
 
   up_of : (at : ℕ) (shorter : List ℤ) → AreShorter passes ahead at shorter → Up at shorter
-  up_of at shorter done = record { root = level (value_at shorter comps) no_value done.root; each = done.least }
+  up_of at shorter done = record { root = level (value_at shorter comps) no_sum done.root; each = done.least }
 
   pub fewer_small : (at : ℕ) → at < comps → (shorter : List ℤ) → AreShorter passes ahead at shorter → IsSmall most_summed (value_at shorter (shorter_of at))
   fewer_small at below shorter done = elim (tree_off.falls at below) [
@@ -161,7 +179,7 @@ module _ (passes : Passes) (is : IsForPasses passes) (ahead : List ℤ) (are : A
     | inr top ↦ high (value_at shorter (shorter_of at)) (ap (value_at shorter) top ∙ done.root)
   ]
     where
-      high : (x : ℤ) → x ≡ no_value → IsSmall most_summed x
+      high : (x : ℤ) → x ≡ no_sum → IsSmall most_summed x
       high x e = record { above = omega (arith, ints, e); below = omega (arith, ints, e) }
 
   pub shorter_one : (at : ℕ) → at < comps → (shorter new : List ℤ) → AreShorter passes ahead at shorter
@@ -173,7 +191,7 @@ module _ (passes : Passes) (is : IsForPasses passes) (ahead : List ℤ) (are : A
       let others : (comp : ℕ) → comp ≢ at → value_at new comp ≡ value_at shorter comp = λ comp differ.
       ap (λ (xs : List ℤ). value_at xs comp) made ∙ get_or-set_other shorter at comp put (pos 0) differ in
       let after : Up (suc at) new =
-      up_one (IsMadeOf (priced_for passes).day passes.turn.uncouple) shorter_of comps tree_off credited no_value at below (value_at shorter) (value_at new)
+      up_one (IsMadeOf (priced_for passes).day passes.turn.uncouple) shorter_of comps tree_off credited no_sum at below (value_at shorter) (value_at new)
       (up_of at shorter done) here others in
       let put_small : IsSmall most_summed put =
       lower_small most_summed (value_at shorter (shorter_of at)) (credited at) (fewer_small at below shorter done) (credited_small at below) in
@@ -208,9 +226,9 @@ module _ (passes : Passes) (is : IsForPasses passes) (ahead : List ℤ) (are : A
       (least_turning (priced_for passes) passes.link passes.turn.reverse passes.turn.arriving passes.turn.departing passes.turn.uncouple passes.turn.couple is.turn
       (map cell_in ahead) (value_at ahead) are.is (value_at passes.credits.now) (value_at passes.debits.now) passes.shunting.0 is.sums (place at) at runs below
       there.1 (value_at shorter (shorter_of at)) (value_at longer at)
-      (least_fewer_of (priced_for passes).day passes.turn.uncouple shorter_of is.off credited no_value (value_at shorter (shorter_of at)) at below
-      (up_rest (IsMadeOf (priced_for passes).day passes.turn.uncouple) shorter_of comps tree_off credited no_value at below (value_at shorter) (up_of at shorter up)))
-      (least_more_of (priced_for passes).day passes.turn.couple longer_of is.on debited no_value (value_at longer at) at below (down.least at (omega (arith, below)))))
+      (least_fewer_of (priced_for passes).day passes.turn.uncouple shorter_of is.off credited no_sum (value_at shorter (shorter_of at)) at below
+      (up_rest (IsMadeOf (priced_for passes).day passes.turn.uncouple) shorter_of comps tree_off credited no_sum at below (value_at shorter) (up_of at shorter up)))
+      (least_more_of (priced_for passes).day passes.turn.couple longer_of is.on debited no_sum (value_at longer at) at below (down.least at (omega (arith, below)))))
 
   pub passed_none : (values : List ℤ) → length values ≡ comps → ArePassed passes ahead 0 values
   passed_none values long = record { long = long; each = λ comp under runs. absurd (omega (arith, under)) }

@@ -34,7 +34,7 @@ use Rattle.price_bound.proofs.EdgeValues.{coupling_is, keeping_is, sum_turned, u
 use Rattle.price_bound.proofs.HeldValues.{held_offer, least_by, least_either, least_of_this, least_of_those}
 use Rattle.price_bound.proofs.TurnEdges.{IsTurned, couple_edge, couples_some, keep_edge, keeps_all, of_edge, uncouple_edge, uncouples_some}
 
-lost : (x : ℤ) → IsSmall 6000000000000000 x → pos 9090000000000000000 ≤ℤ (pos 9100000000000000000 +ℤ (pos 0 -ℤ x))
+lost : (x : ℤ) → IsSmall 6000000000000000 x → pos 9080000000000000000 ≤ℤ (pos 9094000000000000000 +ℤ (pos 0 -ℤ x))
 lost x small = let under = small.below in omega (arith, ints, under)
 
 taken : (x y : ℤ) → (x -ℤ y) ≡ (x +ℤ (pos 0 -ℤ y))
@@ -43,7 +43,7 @@ taken x y = omega (arith, ints)
 back : (x s y : ℤ) → (s -ℤ y) ≡ x → s ≡ (x -ℤ (pos 0 -ℤ y))
 back x s y e = omega (arith, ints, e)
 
-shunted : (x : ℤ) → IsSmall 1000000000000 x → pos 9050000000000000000 ≤ℤ (pos 9090000000000000000 +ℤ x)
+shunted : (x : ℤ) → IsSmall 1000000000000 x → pos 9050000000000000000 ≤ℤ (pos 9080000000000000000 +ℤ x)
 shunted x small = let above = small.above in omega (arith, ints, above)
 
 swapped : (x y : ℤ) → (x +ℤ y) ≡ (y +ℤ x)
@@ -289,37 +289,37 @@ module _ (priced : Priced) (l : ℕ) (r : Bool) (a b : ℕ) (u c : End) (turn : 
           few = λ edge cell there origin offers. (offer_turns edge cell origin (kind_edge edge ((are_edges.exact edge).0 there)) offers).1;
         })
 
-    least_gone : {fewer : ℤ} → IsLeastOver (λ to. IsMadeOf priced.day u arrived to × (arrived ≢ to)) (λ to. row to +ℤ credit to) (pos 9100000000000000000) fewer
-        → IsLeastOf Gone (pos 9090000000000000000) (fewer -ℤ credit arrived)
+    least_gone : {fewer : ℤ} → IsLeastOver (λ to. IsMadeOf priced.day u arrived to × (arrived ≢ to)) (λ to. row to +ℤ credit to) (pos 9094000000000000000) fewer
+        → IsLeastOf Gone (pos 9080000000000000000) (fewer -ℤ credit arrived)
     least_gone {fewer} p =
-        least_by (λ x. (to : ℕ) × (IsMadeOf priced.day u arrived to × (arrived ≢ to)) × ((row to +ℤ credit to) ≡ x)) Gone (pos 9100000000000000000)
-        (pos 9090000000000000000) fewer (pos 0 -ℤ credit arrived) (fewer -ℤ credit arrived) (lost (credit arrived) (sums.credits_small arrived listed))
+        least_by (λ x. (to : ℕ) × (IsMadeOf priced.day u arrived to × (arrived ≢ to)) × ((row to +ℤ credit to) ≡ x)) Gone (pos 9094000000000000000)
+        (pos 9080000000000000000) fewer (pos 0 -ℤ credit arrived) (fewer -ℤ credit arrived) (lost (credit arrived) (sums.credits_small arrived listed))
         (taken fewer (credit arrived))
         (λ x there. (there.0, there.1, taken (row there.0 +ℤ credit there.0) (credit arrived) ∙ ap (λ (y : ℤ). y +ℤ (pos 0 -ℤ credit arrived)) there.2))
         (λ x there. (there.0, there.1, back x (row there.0 +ℤ credit there.0) (credit arrived) there.2))
-        (least_of_those (λ to. IsMadeOf priced.day u arrived to × (arrived ≢ to)) (λ to. row to +ℤ credit to) (pos 9100000000000000000) fewer p)
+        (least_of_those (λ to. IsMadeOf priced.day u arrived to × (arrived ≢ to)) (λ to. row to +ℤ credit to) (pos 9094000000000000000) fewer p)
 
-    least_come : {longer : ℤ} → IsLeastOver (λ to. IsMadeOf priced.day c to arrived × (to ≢ arrived)) (λ to. row to +ℤ debit to) (pos 9100000000000000000) longer
-        → IsLeastOf Come (pos 9090000000000000000) (longer -ℤ debit arrived)
+    least_come : {longer : ℤ} → IsLeastOver (λ to. IsMadeOf priced.day c to arrived × (to ≢ arrived)) (λ to. row to +ℤ debit to) (pos 9094000000000000000) longer
+        → IsLeastOf Come (pos 9080000000000000000) (longer -ℤ debit arrived)
     least_come {longer} p =
-        least_by (λ x. (to : ℕ) × (IsMadeOf priced.day c to arrived × (to ≢ arrived)) × ((row to +ℤ debit to) ≡ x)) Come (pos 9100000000000000000)
-        (pos 9090000000000000000) longer (pos 0 -ℤ debit arrived) (longer -ℤ debit arrived) (lost (debit arrived) (sums.debits_small arrived listed))
+        least_by (λ x. (to : ℕ) × (IsMadeOf priced.day c to arrived × (to ≢ arrived)) × ((row to +ℤ debit to) ≡ x)) Come (pos 9094000000000000000)
+        (pos 9080000000000000000) longer (pos 0 -ℤ debit arrived) (longer -ℤ debit arrived) (lost (debit arrived) (sums.debits_small arrived listed))
         (taken longer (debit arrived))
         (λ x there. (there.0, there.1, taken (row there.0 +ℤ debit there.0) (debit arrived) ∙ ap (λ (y : ℤ). y +ℤ (pos 0 -ℤ debit arrived)) there.2))
         (λ x there. (there.0, there.1, back x (row there.0 +ℤ debit there.0) (debit arrived) there.2))
-        (least_of_those (λ to. IsMadeOf priced.day c to arrived × (to ≢ arrived)) (λ to. row to +ℤ debit to) (pos 9100000000000000000) longer p)
+        (least_of_those (λ to. IsMadeOf priced.day c to arrived × (to ≢ arrived)) (λ to. row to +ℤ debit to) (pos 9094000000000000000) longer p)
 
     -- what the passes find is the least of the turnings' values
     pub least_turning : (fewer longer : ℤ)
-        → IsLeastOver (λ to. IsMadeOf priced.day u arrived to × (arrived ≢ to)) (λ to. row to +ℤ credit to) (pos 9100000000000000000) fewer
-        → IsLeastOver (λ to. IsMadeOf priced.day c to arrived × (to ≢ arrived)) (λ to. row to +ℤ debit to) (pos 9100000000000000000) longer
+        → IsLeastOver (λ to. IsMadeOf priced.day u arrived to × (arrived ≢ to)) (λ to. row to +ℤ credit to) (pos 9094000000000000000) fewer
+        → IsLeastOver (λ to. IsMadeOf priced.day c to arrived × (to ≢ arrived)) (λ to. row to +ℤ debit to) (pos 9094000000000000000) longer
         → IsLeastOf Turning limit (lower (row arrived) (shunting +ℤ lower (fewer -ℤ credit arrived) (longer -ℤ debit arrived)))
     least_turning fewer longer off on =
         let credits : IsSmall 6000000000000000 (credit arrived) = sums.credits_small arrived listed in
         let debits : IsSmall 6000000000000000 (debit arrived) = sums.debits_small arrived listed in
         least_either (λ x. x ≡ row arrived) (λ x. Going x ⊎ Coming x) limit (row arrived) (shunting +ℤ lower (fewer -ℤ credit arrived) (longer -ℤ debit arrived))
         (least_of_this limit (row arrived))
-        (least_by (λ x. Gone x ⊎ Come x) (λ x. Going x ⊎ Coming x) (pos 9090000000000000000) limit (lower (fewer -ℤ credit arrived) (longer -ℤ debit arrived)) shunting
+        (least_by (λ x. Gone x ⊎ Come x) (λ x. Going x ⊎ Coming x) (pos 9080000000000000000) limit (lower (fewer -ℤ credit arrived) (longer -ℤ debit arrived)) shunting
         (shunting +ℤ lower (fewer -ℤ credit arrived) (longer -ℤ debit arrived)) (shunted shunting sums.shunting_small)
         (swapped shunting (lower (fewer -ℤ credit arrived) (longer -ℤ debit arrived)))
         (λ x either. elim either [
@@ -330,7 +330,7 @@ module _ (priced : Priced) (l : ℕ) (r : Bool) (a b : ℕ) (u c : End) (turn : 
           | inl (to, of, differ, e) ↦ inl (to, (of, differ), less_by x shunting ((row to +ℤ credit to) -ℤ credit arrived) e)
           | inr (to, of, differ, e) ↦ inr (to, (of, differ), less_by x shunting ((row to +ℤ debit to) -ℤ debit arrived) e)
         ])
-        (least_either Gone Come (pos 9090000000000000000) (fewer -ℤ credit arrived) (longer -ℤ debit arrived)
+        (least_either Gone Come (pos 9080000000000000000) (fewer -ℤ credit arrived) (longer -ℤ debit arrived)
         (least_gone off) (least_come on)))
 
     -- how large the cell that is offered is

@@ -1,5 +1,5 @@
 -- Turns without exchange, whose edges are priced all together: by passes over the compositions.
-use Rattle.std.specs.Prelude.{ℕ, suc, ◌≡◌, ◌<◌, ◌≤◌, List, length, get_or, map, Bool, false, Option, Some, IfSome}
+use Rattle.std.specs.Prelude.{ℕ, suc, ◌≡◌, ◌<◌, ◌≤◌, List, length, get_or, map, Bool, false, Option, Some, IfSome, None}
 use Rattle.std.specs.Prelude.{slice_get, ℤ, pos, ◌+ℤ◌}
 use Rattle.rules.specs.declared.records.End.{End}
 use Rattle.rules.specs.declared.records.Link.{Link}
@@ -85,22 +85,31 @@ pub record AreAhead (passes : Passes) (values : List ℤ) : Type 0 where
   pub is : IsAhead (priced_for passes) passes.turn.departing (map cell_in values) (value_at values)
   pub small : (comp : ℕ) → comp < comps_for passes → IsSmall most_held (value_at values comp)
 
+-- what stands for no sum of a value and a price of a composition's units: no such sum is below it where there is no cell
+abbrev pub no_sum : ℤ
+no_sum = pos 9094000000000000000
+
+-- no composition from a number on has a cell ahead
+pub record IsEndAhead (passes : Passes) (ahead : List ℤ) (end : ℕ) : Type 0 where
+  pub within : end ≤ comps_for passes
+  pub none : (comp : ℕ) → end ≤ comp → get_or (map cell_in ahead) comp None ≡ None
+
 -- for each composition, and for no units, the least value with a debit over the longer compositions from a number on
 pub record AreLonger (passes : Passes) (ahead : List ℤ) (from : ℕ) (longer : List ℤ) : Type 0 where
   pub long : length longer ≡ suc (comps_for passes)
   pub least : (comp : ℕ) → comp ≤ comps_for passes
       → IsLeastOver (IsOver (IsMadeOf (priced_for passes).day passes.turn.couple) (place_at passes.longer.now)
       (comps_for passes) from comp)
-      (λ c. value_at ahead c +ℤ value_at passes.debits.now c) no_value (value_at longer comp)
+      (λ c. value_at ahead c +ℤ value_at passes.debits.now c) no_sum (value_at longer comp)
   pub small : (comp : ℕ) → comp ≤ comps_for passes → IsSmall most_summed (value_at longer comp)
 
 -- for each composition below a number the least value with a credit over what it is made of; none for no units
 pub record AreShorter (passes : Passes) (ahead : List ℤ) (at : ℕ) (shorter : List ℤ) : Type 0 where
   pub long : length shorter ≡ suc (comps_for passes)
-  pub root : value_at shorter (comps_for passes) ≡ no_value
+  pub root : value_at shorter (comps_for passes) ≡ no_sum
   pub least : (comp : ℕ) → comp < at
       → IsLeastOver (IsMadeOf (priced_for passes).day passes.turn.uncouple comp)
-      (λ c. value_at ahead c +ℤ value_at passes.credits.now c) no_value (value_at shorter comp)
+      (λ c. value_at ahead c +ℤ value_at passes.credits.now c) no_sum (value_at shorter comp)
   pub small : (comp : ℕ) → comp < at → IsSmall most_summed (value_at shorter comp)
 
 -- for each composition that may run on the arriving trip the value of the cell that the edges offer

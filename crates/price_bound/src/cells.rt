@@ -82,9 +82,10 @@ impl CellRow {
         self.range.begin
     }
 
-    /// The first composition from which on none has a cell.
+    /// A composition from which on none has a cell.
     pub(crate) fn end(&self) -> usize
-        ensures { (comp : ℕ) → result ≤ comp → get_or self.now comp None ≡ None }
+        ensures none { (comp : ℕ) → result ≤ comp → get_or self.now comp None ≡ None }
+        ensures within { result ≤ length self.now }
     {
         self.range.end
     }

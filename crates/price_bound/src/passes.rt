@@ -5,7 +5,7 @@
 //! coupled is those that are made of it. So one pass from the last composition to the first finds for each the least
 //! value over the longer ones, and one from the first to the last that over the shorter ones.
 
-ghost use Rattle.std.specs.Prelude.{ℕ, ◌≡◌, ◌<◌, ◌+ℤ◌, ◌-ℤ◌, length, set, suc, ℤ, IfSome, Some, ◌+◌, is_none};
+ghost use Rattle.std.specs.Prelude.{ℕ, ◌≡◌, ◌<◌, ◌≤◌, ◌+ℤ◌, ◌-ℤ◌, length, set, suc, ℤ, IfSome, Some, ◌+◌, is_none};
 ghost use Rattle.std.specs.Prelude.{false, true};
 ghost use Rattle.timetable.specs.Links.{outgoing};
 ghost use Rattle.price_bound.specs.CellRows.{MayRunOn, all_bare, cell_in, comps_of, row_on};
@@ -14,18 +14,17 @@ ghost use Rattle.price_bound.specs.CellSizes.{most_edge_price, most_step, most_u
 ghost use Rattle.price_bound.specs.ChainStages.{priced_cost_of};
 ghost use Rattle.price_bound.specs.CompositionTrees.{place_at};
 ghost use Rattle.price_bound.specs.Credits.{is_whole};
-ghost use Rattle.price_bound.specs.HeldValues.{no_value};
 ghost use Rattle.price_bound.specs.LeastOverTrees.{lower};
 ghost use Rattle.price_bound.specs.PassRooms.{IsPassRoom};
-ghost use Rattle.price_bound.specs.PassValues.{AreAhead, AreLonger, ArePassValues, AreShorter, IsForPasses};
-ghost use Rattle.price_bound.specs.PassValues.{IsPassedSmall, IsPlainTurn, comps_for, most_summed, priced_for};
+ghost use Rattle.price_bound.specs.PassValues.{AreAhead, AreLonger, ArePassValues, AreShorter, IsEndAhead, IsForPasses};
+ghost use Rattle.price_bound.specs.PassValues.{IsPassedSmall, IsPlainTurn, comps_for, most_summed, no_sum, priced_for};
 ghost use Rattle.price_bound.specs.PassValues.{value_at};
 ghost use Rattle.price_bound.specs.Paths.{with_priced_cost};
 ghost use Rattle.price_bound.specs.Pricing.{ArePriced, priced_by};
 ghost use Rattle.price_bound.specs.RowValues.{IsForPassed, IsStepOn, is_had, passed_cell, priced_on};
 ghost use Rattle.price_bound.specs.TripAndLinkPrices.{IsForTrip};
 
-use crate::cells::{Cell, CellRow, NO_VALUE, cell_in, value_of, with_priced_cost};
+use crate::cells::{Cell, CellRow, cell_in, value_of, with_priced_cost};
 use crate::pass_room::PassRoom;
 use crate::priced::Pricing;
 use crate::priced_costs::{Amount, PricedCosts, weighted};
@@ -34,6 +33,10 @@ use crate::turn_prices::shunting_cost;
 use rail_base::limits::MAX_COMPOSITIONS;
 use rail_base::{CompNo, LinkNo, TripNo};
 use rail_csv::End;
+
+/// What stands for no sum of a value ahead and the price of a composition's units. Where there is a cell, the sum is
+/// below it; where there is none, no sum is.
+const NO_SUM: i64 = 9_094_000_000_000_000_000;
 
 /// A turn without exchange.
 #[derive(Clone, Copy)]
@@ -107,7 +110,7 @@ pub(crate) fn fill_by_passes(
     ensures small { IsSmallStep most_step ahead.now row.new }
 {
     prove!(priced_costs.pricing.instance.catalogue().len() as usize <= MAX_COMPOSITIONS);
-    passes.put_all(ahead.values(), room);
+    passes.put_all(ahead.values(), ahead.end(), room);
     let values = PassedValues {
         priced_costs,
         values: &room.values,
@@ -188,21 +191,37 @@ impl<'a> Passes<'a> {
         }
     }
 
-    /// Puts the least values by the compositions that arrive, where these may run on the arriving trip.
-    fn put_all(&self, ahead: &[i64], room: &mut PassRoom)
+    /// Puts the least values by the compositions that arrive, where these may run on the arriving trip. No composition
+    /// from the end on has a value ahead.
+    fn put_all(&self, ahead: &[i64], end: usize, room: &mut PassRoom)
         requires is { IsForPasses self.now }
         requires ahead { AreAhead self.now ahead.now }
+        requires end { IsEndAhead self.now ahead.now end }
         requires room { IsPassRoom (comps_for self.now) room.old }
         ensures room { IsPassRoom (comps_for self.now) room.new }
         ensures values { ArePassValues self.now ahead.now room.new.values.items }
     {
-        self.put(ahead, &mut room.shorter, &mut room.longer, &mut room.values);
+        self.put(
+            ahead,
+            end,
+            &mut room.shorter,
+            &mut room.longer,
+            &mut room.values,
+        );
     }
 
     /// The same, into slices.
-    fn put(&self, ahead: &[i64], shorter: &mut [i64], longer: &mut [i64], values: &mut [i64])
+    fn put(
+        &self,
+        ahead: &[i64],
+        end: usize,
+        shorter: &mut [i64],
+        longer: &mut [i64],
+        values: &mut [i64],
+    )
         requires is { IsForPasses self.now }
         requires ahead { AreAhead self.now ahead.now }
+        requires end { IsEndAhead self.now ahead.now end }
         requires shorter { length shorter.old ≡ suc (comps_for self.now) }
         requires longer { length longer.old ≡ suc (comps_for self.now) }
         requires values { length values.old ≡ comps_for self.now }
@@ -211,19 +230,21 @@ impl<'a> Passes<'a> {
         ensures values { ArePassValues self.now ahead.now values.new }
     {
         clear(longer);
-        self.put_longer(ahead, longer);
-        put_value(shorter, self.turned.len(), Amount(NO_VALUE));
+        self.put_longer(ahead, end, longer);
+        put_value(shorter, self.turned.len(), Amount(NO_SUM));
         self.put_values(ahead, longer, shorter, values);
     }
 
-    /// Puts for each composition the least value, with a debit, over those that are made of it.
-    fn put_longer(&self, ahead: &[i64], longer: &mut [i64])
+    /// Puts for each composition the least value, with a debit, over those that are made of it. No composition from the
+    /// end on has a value ahead.
+    fn put_longer(&self, ahead: &[i64], end: usize, longer: &mut [i64])
         requires is { IsForPasses self.now }
         requires ahead { AreAhead self.now ahead.now }
-        requires longer { AreLonger self.now ahead.now (comps_for self.now) longer.old }
+        requires end { end ≤ comps_for self.now }
+        requires longer { AreLonger self.now ahead.now end longer.old }
         ensures { AreLonger self.now ahead.now 0 longer.new }
     {
-        let mut comp = self.longer.len();
+        let mut comp = end;
         while comp > 0 {
             comp -= 1;
             self.lower_rest(ahead, longer, comp);
@@ -286,13 +307,13 @@ impl<'a> Passes<'a> {
     }
 }
 
-/// Puts no value.
-fn clear(values: &mut [i64])
-    ensures long { length values.new ≡ length values.old }
-    ensures none { (place : ℕ) → place < length values.old → value_at values.new place ≡ no_value }
+/// Puts no sum.
+fn clear(sums: &mut [i64])
+    ensures long { length sums.new ≡ length sums.old }
+    ensures none { (place : ℕ) → place < length sums.old → value_at sums.new place ≡ no_sum }
 {
-    for place in 0..values.len() {
-        values[place] = NO_VALUE;
+    for place in 0..sums.len() {
+        sums[place] = NO_SUM;
     }
 }
 

@@ -49,6 +49,6 @@ returns-clause-cell g c =
     let priced : Priced = g.P.EdgePrices.priced c.args.prices.now in
     c.held_cell.ensures
     ∙ least_ends priced (g.P.EdgePrices.link c.args.prices.now) c.args.edges.now c.args.ahead.now c.args.comp c.args.begin c.end-end.result
-    c.loop-comp.place (held_cell c.loop-comp.least) c.requires.graphs c.requires.edges c.requires.comp c.end-end.ensures c.requires.begin
+    c.loop-comp.place (held_cell c.loop-comp.least) c.requires.graphs c.requires.edges c.requires.comp c.end-end.ensures.none c.requires.begin
     c.loop-comp.invariant.least
     (λ is. false≢true (sym c.loop-comp-test.false ∙ c.is_in_group.ensures.1 is))

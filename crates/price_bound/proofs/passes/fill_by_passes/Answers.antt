@@ -1,8 +1,9 @@
 -- The values that the passes found stand for the cells.
-use Rattle.std.proofs.Common.{◌≡◌, ℕ, ℤ, List, ◌+◌, length, sym, ap, ◌∙◌, subst, arith}
+use Rattle.std.proofs.Common.{◌≡◌, ℕ, ℤ, List, ◌+◌, length, get_or, Option, None, sym, ap, ◌∙◌, subst, arith}
 use Rattle.std.specs.Prelude.{is_none}
 use Rattle.timetable.specs.Compositions.{compositions_of}
 use Rattle.timetable.specs.Links.{outgoing}
+use Rattle.price_bound.specs.declared.cells.Cell.{Cell}
 use Rattle.price_bound.specs.CellRows.{bare, cell_in, comps_of, row_on}
 use Rattle.price_bound.specs.ChainStages.{Priced, priced_cost_of}
 use Rattle.price_bound.specs.PassValues.{AreAhead, IsPassedSmall, comps_for, priced_for, value_at}
@@ -15,6 +16,12 @@ pub put_all-requires-clause-ahead : goal.put_all-requires-clause-ahead
 put_all-requires-clause-ahead c =
     held_ahead c.args.passes.now c.values.result.now c.args.ahead.now c.values.ensures.cells c.values.ensures.held c.requires.ahead c.requires.runs
     c.requires.small
+
+pub put_all-requires-clause-end : goal.put_all-requires-clause-end
+put_all-requires-clause-end c = record {
+  within = omega (arith, c.end.ensures.within, c.requires.ahead);
+  none = λ comp under. ap (λ (cells : List (Option Cell)). get_or cells comp None) c.values.ensures.cells ∙ c.end.ensures.none comp under;
+}
 
 pub fill-requires-clause-are : goal.fill-requires-clause-are
 fill-requires-clause-are c =
