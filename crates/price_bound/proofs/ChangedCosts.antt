@@ -1,6 +1,6 @@
 -- What changes add, change by change, is what they add trip by trip.
-use Rattle.std.proofs.Common.{◌≡◌, ◌≢◌, ℕ, suc, ◌+◌, ◌<◌, List, [], ◌∷◌, length, refl, sym, ap, ◌∙◌, arith, Bool, true}
-use Rattle.std.proofs.Common.{false, cond, eqb, get_or, take, ◌++◌}
+use Rattle.std.proofs.Common.{◌≡◌, ◌≢◌, ℕ, zero, suc, ◌+◌, ◌<◌, ◌≤◌, List, [], ◌∷◌, length, refl, sym, ap, ◌∙◌, arith, Bool, true}
+use Rattle.std.proofs.Common.{false, cond, eqb, get_or, take, ◌++◌, Some, None, slice_get}
 use Rattle.std.specs.List.{All, AllPairs}
 use Rattle.std.proofs.lemmas.Bool.{eq-eqb, ne_eqb}
 use Rattle.std.proofs.lemmas.List.Elements.{All-head, All-tail}
@@ -9,7 +9,7 @@ use Rattle.timetable.specs.Lists.{sum_below}
 use Rattle.timetable.proofs.Sums.{sum_one_more, sum_zero}
 use Rattle.price_bound.specs.declared.changes.Change.{Change}
 use Rattle.price_bound.specs.ChangedDays.{added_cost, own_cost}
-use Rattle.price_bound.specs.Changes.{change_cost}
+use Rattle.price_bound.specs.Changes.{AreFrom, IsOwnCount, change_cost}
 use Rattle.price_bound.specs.FollowingPicks.{pick_of}
 
 -- trips before all changes have none
@@ -76,3 +76,64 @@ pub added_more : (changes : List Change) (picks : List ℕ) (i : ℕ) (d : Chang
     → added_cost (take (i + 1) changes) picks ≡ added_cost (take i changes) picks + own_cost picks (get_or changes i d)
 added_more changes picks i d below =
     ap (λ (cs : List Change). added_cost cs picks) (take_more changes i d below) ∙ added_push (take i changes) picks (get_or changes i d)
+
+-- ---- the changes of one trip
+
+-- none is left
+pub own_none : (t : ℕ) → IsOwnCount [] t 0
+own_none t = record {
+  within = omega arith;
+  own = λ comp. refl;
+  left = record { rising = λ i j d lt below. absurd (omega (arith, below)); later = λ k d lt. absurd (omega (arith, lt)) };
+  others = λ s comp lt. refl;
+}
+
+module _ (change : Change) (changes : List Change) (t : ℕ) (are : AreFrom (change ∷ changes) t) where
+  -- the first is of a later trip
+  pub own_later : change.trip ≢ t → IsOwnCount (change ∷ changes) t 0
+  own_later differ = record {
+    within = omega arith;
+    own = λ comp. sym (no_change (change ∷ changes) t comp later);
+    left = record { rising = are.rising; later = later };
+    others = λ s comp lt. refl;
+  }
+    where
+      first : t < change.trip
+      first = let least : t ≤ change.trip = are.later 0 change (omega arith) in omega (arith, least, differ)
+
+      later : All (λ c. t < c.trip) (change ∷ changes)
+      later zero d lt = first
+      later (suc k) d lt = let more : change.trip < (get_or changes k d).trip = later_all change changes are.rising k d (omega (arith, lt)) in omega (arith, first, more)
+
+  -- the first is the trip's
+  pub own_first : change.trip ≡ t → IsOwnCount (change ∷ changes) t 1
+  own_first same = record {
+    within = omega arith;
+    own = λ comp.
+        ap (λ (b : Bool). cond b (cond (eqb change.base comp) 0 change.cost) 0) (eq-eqb change.trip t same)
+        ∙ sym (ap (λ (b : Bool). cond b (cond (eqb change.base comp) 0 change.cost) (change_cost changes t comp)) (eq-eqb change.trip t same));
+    left = record {
+      rising = rest_rising change changes are.rising;
+      later = λ k d lt. let more : change.trip < (get_or changes k d).trip = later_all change changes are.rising k d lt in omega (arith, more, same);
+    };
+    others = λ s comp lt. sym
+        (ap (λ (b : Bool). cond b (cond (eqb change.base comp) 0 change.cost) (change_cost changes s comp))
+        (ne_eqb change.trip s (λ e. absurd (omega (arith, e, same, lt)))));
+  }
+
+-- by the first change, if there is one
+pub own_by_none : (changes : List Change) (t : ℕ) → AreFrom changes t → slice_get changes 0 ≡ None → IsOwnCount changes t 0
+own_by_none [] t are none = own_none t
+own_by_none (change ∷ changes) t are none = absurd cc
+
+pub own_by_later : (changes : List Change) (t : ℕ) (change : Change) → AreFrom changes t → slice_get changes 0 ≡ Some change → change.trip ≢ t
+    → IsOwnCount changes t 0
+own_by_later [] t change are some differ = absurd cc
+own_by_later (first ∷ changes) t change are some differ =
+    let same : first ≡ change = cc in own_later first changes t are (λ e. differ (sym (ap (λ (c : Change). c.trip) same) ∙ e))
+
+pub own_by_first : (changes : List Change) (t : ℕ) (change : Change) → AreFrom changes t → slice_get changes 0 ≡ Some change → change.trip ≡ t
+    → IsOwnCount changes t 1
+own_by_first [] t change are some is = absurd cc
+own_by_first (first ∷ changes) t change are some is =
+    let same : first ≡ change = cc in own_first first changes t are (ap (λ (c : Change). c.trip) same ∙ is)

@@ -45,3 +45,9 @@ module _ (day : Day) (changes : List Change) where
         subst (λ (row : List ℤ). IsCostOf day changes t comp (get_or row comp (pos 0))) (sym (others t differ))
         (done t (omega (arith, lt, differ)) comp below)
   ]
+
+  -- the costs of a trip under its own changes are those under all
+  pub costs_are : (own : List Change) (t comps : ℕ) (table : List (List ℤ)) → ((comp : ℕ) → change_cost own t comp ≡ change_cost changes t comp)
+      → AreCostsIn day own t comps table → AreCostsIn day changes t comps table
+  costs_are own t comps table same done comp below =
+      cost_is day own changes t comp (amount_at table t comp) (same comp) (done comp below)

@@ -1,9 +1,9 @@
 //! Changes: what it costs to give trips other compositions than bases.
 
-ghost use Rattle.std.specs.Prelude.{ℕ, ◌≡◌, ◌<◌, ◌==◌, if◌then◌else◌, All, length, pos};
+ghost use Rattle.std.specs.Prelude.{◌≡◌, ◌<◌, ◌==◌, if◌then◌else◌, All, length, pos};
 ghost use Rattle.price_bound.specs.CellSizes.{IsSmall, most_number, most_chain_value};
 ghost use Rattle.price_bound.specs.ChangedDays.{added_cost, own_cost};
-ghost use Rattle.price_bound.specs.Changes.{change_cost};
+ghost use Rattle.price_bound.specs.Changes.{AreFrom, IsOwnCount, change_cost};
 
 use crate::priced_costs::added;
 use rail_base::{CompNo, Money, TripNo};
@@ -20,16 +20,18 @@ pub struct Change {
     pub cost: u32,
 }
 
-/// The changes from that of a trip on, by which its compositions cost the same; none where the trip has no change.
-pub(crate) fn changes_from(changes: &[Change], trip: TripNo) -> &[Change]
-    ensures { (comp : ℕ) → change_cost result.now trip comp ≡ change_cost changes.now trip comp }
+/// How many of the first changes are a trip's, where the trips of the changes rise, and none is before it: one or none.
+pub(crate) fn own_count(changes: &[Change], trip: TripNo) -> usize
+    requires { AreFrom changes.now trip }
+    ensures { IsOwnCount changes.now trip result }
 {
-    for place in 0..changes.len() {
-        if changes[place].trip == trip {
-            return &changes[place..];
-        }
+    let Some(change) = changes.first() else {
+        return 0;
+    };
+    if change.trip == trip {
+        return 1;
     }
-    &changes[..0]
+    0
 }
 
 /// What the change of a trip costs with a composition: 0 with its base, and 0 where the trip has no change.

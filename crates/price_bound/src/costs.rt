@@ -5,14 +5,13 @@
 ghost use Rattle.std.specs.Prelude.{ℕ, ◌≡◌, ◌<◌, ◌≤◌, length, option_map, pos};
 ghost use Rattle.timetable.specs.Compositions.{compositions_of};
 ghost use Rattle.price_bound.specs.CellSizes.{most_cost};
-ghost use Rattle.price_bound.specs.ChangedDays.{AreChanges};
-ghost use Rattle.price_bound.specs.Changes.{changed_cost};
+ghost use Rattle.price_bound.specs.Changes.{AreFrom, changed_cost};
 ghost use Rattle.price_bound.specs.Costs.{AreCosts, AreCostsIn, IsCostOf, cost_in};
 ghost use Rattle.price_bound.specs.Credits.{AreRowsBut};
 ghost use Rattle.price_bound.specs.PriceTables.{HasSize};
 
 use crate::amounts::AmountTable;
-use crate::changes::{Change, change_cost, changes_from};
+use crate::changes::{Change, change_cost, own_count};
 use crate::priced_costs::{Amount, types_of};
 use cost_model::trip_cost;
 use rail_base::{CompNo, TripNo};
@@ -21,18 +20,23 @@ use timetable::Instance;
 /// What stands in a table of costs where a composition may not run on a trip: no cost is below 0.
 const NO_COST: i64 = -1;
 
-/// Puts into a table for each trip and composition what the trip costs with it, where it may run on the trip. It takes
-/// no memory.
+/// Puts into a table for each trip and composition what the trip costs with it under changes whose trips rise, where it
+/// may run on the trip. It takes no memory, and goes through the changes once.
 pub(crate) fn fill_costs(instance: &Instance, changes: &[Change], costs: &mut AmountTable)
+    requires changes { AreFrom changes.now 0 }
     requires room { HasSize (length instance.now.trips) (length (compositions_of instance.now)) costs.old }
     ensures { AreCosts instance.now changes.now costs.new }
 {
+    let mut place = 0;
     for trip in 0..instance.trips() {
-        fill_row(instance, changes, TripNo(trip), costs);
+        let left = &changes[place..];
+        let count = own_count(left, TripNo(trip));
+        fill_row(instance, &left[..count], TripNo(trip), costs);
+        place += count;
     }
 }
 
-/// Puts the costs of one trip.
+/// Puts the costs of one trip, under changes of which the first is the trip's, if any is.
 fn fill_row(instance: &Instance, changes: &[Change], trip: TripNo, costs: &mut AmountTable)
     requires trip { trip < length instance.now.trips }
     requires room { HasSize (length instance.now.trips) (length (compositions_of instance.now)) costs.old }
@@ -40,9 +44,8 @@ fn fill_row(instance: &Instance, changes: &[Change], trip: TripNo, costs: &mut A
     ensures costs { AreCostsIn instance.now changes.now trip (length (compositions_of instance.now)) costs.new }
     ensures others { AreRowsBut trip costs.old costs.new }
 {
-    let of_trip = changes_from(changes, trip);
     for comp in 0..instance.catalogue().len() {
-        let cost = cost_of(instance, of_trip, trip, CompNo(comp));
+        let cost = cost_of(instance, changes, trip, CompNo(comp));
         costs.put(trip.place(), comp as usize, cost);
     }
 }

@@ -52,6 +52,7 @@ impl Workspace {
         alloc: Global,
         instance: &Instance,
         changes: &[Change],
+        requires changes { AreChanges instance.now changes.now }
     ) -> Result<Workspace, NoMemory>
         ensures { IfOk result (λ room. IsRoomFor instance.now changes.now room) }
     {

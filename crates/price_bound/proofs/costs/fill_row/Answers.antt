@@ -6,7 +6,7 @@ use Rattle.price_bound.specs.Costs.{AreCostsIn}
 use Rattle.price_bound.specs.Credits.{AreRowsBut, put_in}
 use Rattle.price_bound.specs.PriceTables.{HasSize}
 use Rattle.price_bound.proofs.Adding.{read_is}
-use Rattle.price_bound.proofs.Costing.{cost_is, costs_more}
+use Rattle.price_bound.proofs.Costing.{costs_more}
 use Rattle.price_bound.proofs.Crediting.{others_more, put_size}
 use Rattle.price_bound.proofs.costs.fill_row.Goals as goal
 
@@ -29,8 +29,7 @@ loop-comp-preserved c =
       costs = subst (AreCostsIn day c.args.changes.now trip (comp + 1)) (sym put)
           (costs_more day c.args.changes.now (length day.trips) comps c.loop-comp.costs trip comp c.cost_of-cost.result
           c.loop-comp.invariant.room c.requires.trip below c.loop-comp.invariant.costs
-          (cost_is day c.changes_from-of_trip.result.now c.args.changes.now trip comp c.cost_of-cost.result
-          (c.changes_from-of_trip.ensures comp) c.cost_of-cost.ensures));
+          c.cost_of-cost.ensures);
       others = subst (AreRowsBut trip c.args.costs.now) (sym put)
           (others_more (length day.trips) comps c.loop-comp.costs c.args.costs.now trip comp c.cost_of-cost.result
           c.loop-comp.invariant.room c.loop-comp.invariant.others);
