@@ -7,7 +7,8 @@ ghost use Rattle.price_bound.specs.ChangedDays.{AreChanges, changed_day, changed
 
 use crate::changes::Change;
 use crate::following::follow;
-use crate::guide::{Asked, put_prices};
+use crate::guide::put_prices;
+use crate::priced::Asked;
 use crate::settling::settle;
 use crate::slacks::put_slacks;
 use crate::workspaces::Workspace;
@@ -85,8 +86,8 @@ impl<'a> DayBounds<'a> {
     }
 
     /// Puts into a guide what compositions and edges are priced under multipliers that fit, in a region that has a set
-    /// for each trip, and what the best ways on from compositions are priced. A composition that the region doesn't have
-    /// has no price, and its best way on has none where the region has no way on; an edge of a turn has one in any
+    /// for each trip, and what the best ways on from compositions are priced. A composition that the region doesn't
+    /// have has no price, and its best way on has none where the region has no way on; an edge of a turn has one in any
     /// region. Prices for which the guide has no place are left out. No clause says what the guide has then. It takes
     /// no memory.
     pub fn put_prices(
@@ -144,15 +145,15 @@ impl<'a> Relaxation for DayBounds<'a> {
         weight: Weight,
         best: &mut Picks,
     ) -> BoundAnswer {
-        self.room.bound(
-            self.instance,
-            self.graphs,
-            self.changes,
+        let asked = Asked {
+            instance: self.instance,
+            graphs: self.graphs,
+            changes: self.changes,
             region,
             multipliers,
             weight,
-            best,
-        )
+        };
+        self.room.bound(&asked, best)
     }
 
     fn follows(&self, picks: &Picks) -> bool {

@@ -10,37 +10,17 @@ ghost use Rattle.price_bound.specs.Pricing.{ArePriced, priced_by};
 ghost use Rattle.price_bound.specs.Rooms.{IsRoomFor};
 
 use crate::chain_rows::ChainRows;
-use crate::changes::Change;
 use crate::credits::fill_sums;
 use crate::edge_prices::EdgePrices;
 use crate::part_prices::PartPrices;
-use crate::priced::Pricing;
+use crate::priced::{Asked, Pricing};
 use crate::priced_costs::PricedCosts;
 use crate::turn_prices::{TurnPrices, TurnTrips};
 use crate::workspaces::Workspace;
-use branch_tree::{Multipliers, Region, Weight};
 use price_guide::PriceGuide;
 use rail_base::limits::{MAX_ENTRIES, MAX_LINKS, MAX_TRIPS};
 use rail_base::{CompNo, LinkNo, TripNo};
-use timetable::Instance;
-use transitions::{Edge, Graphs};
-
-/// What is to be priced: a region of a day under changes and multipliers.
-#[derive(Drop)]
-pub(crate) struct Asked<'a> {
-    /// The day.
-    pub instance: &'a Instance,
-    /// Its edges.
-    pub graphs: &'a Graphs,
-    /// Its changes.
-    pub changes: &'a [Change],
-    /// The compositions that each trip may have.
-    pub region: &'a Region,
-    /// The multipliers.
-    pub multipliers: &'a Multipliers,
-    /// Whether costs count.
-    pub weight: Weight,
-}
+use transitions::Edge;
 
 /// Puts the prices of a region into a guide. It takes no memory.
 pub(crate) fn put_prices(room: &mut Workspace, asked: &Asked<'_>, guide: &mut PriceGuide)

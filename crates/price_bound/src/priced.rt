@@ -1,4 +1,4 @@
-//! What is priced, with the tables of its costs and prices.
+//! What is to be priced, and the same with the tables of its costs and prices.
 
 use crate::amounts::AmountTable;
 use crate::changes::Change;
@@ -8,6 +8,23 @@ use crate::trains::Trains;
 use branch_tree::{Multipliers, Region, Weight};
 use timetable::Instance;
 use transitions::Graphs;
+
+/// What is to be priced: a region of a day under changes and multipliers.
+#[derive(Drop)]
+pub(crate) struct Asked<'a> {
+    /// The day.
+    pub instance: &'a Instance,
+    /// Its edges.
+    pub graphs: &'a Graphs,
+    /// Its changes.
+    pub changes: &'a [Change],
+    /// The compositions that each trip may have.
+    pub region: &'a Region,
+    /// The multipliers.
+    pub multipliers: &'a Multipliers,
+    /// Whether costs count.
+    pub weight: Weight,
+}
 
 /// What is priced: a day and its edges under changes, a region of it, multipliers and their weight; with the tables of
 /// the day's costs and of the prices under the multipliers.

@@ -19,15 +19,14 @@ use crate::changes::Change;
 use crate::costs::fill_costs;
 use crate::credits::{UnitSums, fill_sums};
 use crate::price_tables::PriceTables;
-use crate::priced::Pricing;
+use crate::priced::{Asked, Pricing};
 use crate::priced_costs::added;
 use crate::trains::Trains;
-use branch_tree::{BoundAnswer, Multipliers, Region, Weight};
+use branch_tree::BoundAnswer;
 use rail_base::limits::{MAX_ENTRIES, MAX_LINKS, MAX_TRIPS};
 use rail_base::{Money, NoMemory};
 use std::alloc::Global;
 use timetable::{Instance, Picks};
-use transitions::Graphs;
 
 /// The room in which the bounds of a day are found.
 #[derive(Drop)]
@@ -52,8 +51,8 @@ impl Workspace {
         alloc: Global,
         instance: &Instance,
         changes: &[Change],
-        requires changes { AreChanges instance.now changes.now }
     ) -> Result<Workspace, NoMemory>
+        requires changes { AreChanges instance.now changes.now }
         ensures { IfOk result (λ room. IsRoomFor instance.now changes.now room) }
     {
         let choice = Picks::new(alloc, instance.trips())?;
@@ -81,38 +80,36 @@ impl Workspace {
     /// time, of which no clause speaks, grows with the trips and the links times the compositions, with the edges of
     /// joins, splits and turns that may uncouple and couple at once, with the departure minutes and the trips times the
     /// types, and, for each multiplier, with the stations and the stock rows.
-    pub(crate) fn bound(
-        &mut self,
-        instance: &Instance,
-        graphs: &Graphs,
-        changes: &[Change],
-        region: &Region,
-        multipliers: &Multipliers,
-        weight: Weight,
-        best: &mut Picks,
-    ) -> BoundAnswer
-        requires graphs { AreGraphs instance.now graphs.now }
-        requires room { IsRoomFor instance.now changes.now self.old }
-        requires changes { AreChanges instance.now changes.now }
-        requires region { length region.now ≡ length instance.now.trips }
-        requires fit { DoFit (length (places_of instance.now)) (length (lambdas_of instance.now)) multipliers.now }
-        requires best { length best.old ≡ length instance.now.trips }
-        ensures room { IsRoomFor instance.now changes.now self.new }
-        ensures bound { IsBound (changed_meanings (changed_day instance.now changes.now)) region.now
-            multipliers.now weight result best.old best.new }
+    pub(crate) fn bound(&mut self, asked: &Asked<'_>, best: &mut Picks) -> BoundAnswer
+        requires graphs { AreGraphs asked.now.instance.now asked.now.graphs.now }
+        requires room { IsRoomFor asked.now.instance.now asked.now.changes.now self.old }
+        requires changes { AreChanges asked.now.instance.now asked.now.changes.now }
+        requires region { length asked.now.region.now ≡ length asked.now.instance.now.trips }
+        requires fit { DoFit (length (places_of asked.now.instance.now)) (length (lambdas_of asked.now.instance.now))
+            asked.now.multipliers.now }
+        requires best { length best.old ≡ length asked.now.instance.now.trips }
+        ensures room { IsRoomFor asked.now.instance.now asked.now.changes.now self.new }
+        ensures bound { IsBound (changed_meanings (changed_day asked.now.instance.now asked.now.changes.now))
+            asked.now.region.now asked.now.multipliers.now asked.now.weight result best.old best.new }
     {
-        prove!(multipliers.entries().len() <= MAX_ENTRIES);
-        prove!(instance.chains() as usize <= MAX_TRIPS);
-        prove!(instance.links() as usize <= MAX_LINKS);
-        let constant = self.tables.fill(instance, multipliers);
-        fill_sums(instance, &self.trains, &self.tables, region, &mut self.sums);
+        prove!(asked.multipliers.entries().len() <= MAX_ENTRIES);
+        prove!(asked.instance.chains() as usize <= MAX_TRIPS);
+        prove!(asked.instance.links() as usize <= MAX_LINKS);
+        let constant = self.tables.fill(asked.instance, asked.multipliers);
+        fill_sums(
+            asked.instance,
+            &self.trains,
+            &self.tables,
+            asked.region,
+            &mut self.sums,
+        );
         let pricing = Pricing {
-            instance,
-            graphs,
-            changes,
-            multipliers,
-            weight,
-            region,
+            instance: asked.instance,
+            graphs: asked.graphs,
+            changes: asked.changes,
+            multipliers: asked.multipliers,
+            weight: asked.weight,
+            region: asked.region,
             costs: &self.costs,
             tables: &self.tables,
             sums: &self.sums,
