@@ -33,8 +33,8 @@ pub(crate) const NO_CELL: Cell = Cell {
     value: NO_VALUE,
     next: CompNo(0),
 };
-/// What the values of cells are below, in a row.
-const LIMIT: i64 = 9_050_000_000_000_000_000;
+/// The least of what stands in a row for no cell: the value of a cell is below it.
+const LEAST_NONE: i64 = 9_050_000_000_000_000_000;
 
 /// The cells of one trip, by composition, of which the values alone are kept. A contract sees the list of them, each of
 /// which leads nowhere.
@@ -167,7 +167,7 @@ impl CellRow {
 pub(crate) fn cell_in(value: i64) -> Option<Cell>
     ensures { result ≡ cell_in value }
 {
-    if value < LIMIT {
+    if value < LEAST_NONE {
         Some(Cell {
             value,
             next: CompNo(0),
@@ -208,7 +208,11 @@ fn lower_value(cell: Cell, comp: CompNo, value: i64) -> Cell
 pub(crate) fn held_cell(cell: Cell) -> Option<Cell>
     ensures { result ≡ held_cell cell }
 {
-    if cell.value < LIMIT { Some(cell) } else { None }
+    if cell.value < LEAST_NONE {
+        Some(cell)
+    } else {
+        None
+    }
 }
 
 /// A cell, which may stand for none, unless another is of lower value.

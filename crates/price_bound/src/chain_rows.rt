@@ -117,8 +117,8 @@ impl ChainRows {
         }
     }
 
-    /// The composition that follows one at a place of a chain, whose rows are made. At the last place none does, and any
-    /// is told.
+    /// The composition that follows one at a place of a chain, whose rows are made. At the last place none does, and
+    /// any is told.
     fn next(&self, pricing: &Pricing<'_>, chain: &[TripNo], place: usize, comp: CompNo) -> CompNo
         requires priced { ArePriced pricing.now }
         requires few { length chain.now ≤ length pricing.now.instance.now.trips }
