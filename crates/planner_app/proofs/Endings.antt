@@ -16,6 +16,7 @@ use Rattle.planner_app.specs.declared.reports.ReportKind.{ReportKind}
 use Rattle.planner_app.specs.declared.reports.ReportKind.TheVariants as report
 use Rattle.planner_app.specs.Asked.{AskInVain, AskToCheck, AskToPlan, AskToReport, AskToSimulate, AskToTry, command_for}
 use Rattle.planner_app.specs.Outcomes.{ComesTo, IsAnswerReported, IsOutcome, OfCommand, InVain, Unread}
+use Rattle.planner_app.specs.PlannerEndings.{EndsByCommand}
 use Rattle.planner_app.specs.Statuses.{EndsCheck, EndsReport, EndsSimulation, EndsTrial, WroteOutcome, is_unread, status_of}
 use Rattle.planner_app.proofs.Answering.{planning_ends, planning_status, trial_ends, trial_status}
 use Rattle.planner_app.proofs.Asking.{one_command}
@@ -65,37 +66,37 @@ module _ (words : List (List ℕ)) (old new : FolderState) (outcome : Outcome) (
       record { text = whole.0; document = whole.1; appended = whole.2; undisturbed = subst IsUndisturbed whole.3 undisturbed } in
       subst Ends (sym whole.3) (ending (of_words named asked written) written)
 
-  pub ends_planning : (files : Files) (dir : List ℕ) (nodes rounds : ℕ) → old.holds ≡ Some files → AskToPlan words dir nodes rounds → IsUndisturbed status
+  ends_planning : (files : Files) (dir : List ℕ) (nodes rounds : ℕ) → old.holds ≡ Some files → AskToPlan words dir nodes rounds → IsUndisturbed status
       → EndsPlanning refused_line files dir nodes status before after
   ends_planning files dir nodes rounds tells asked undisturbed =
       ends_as (λ n. EndsPlanning refused_line files dir nodes n before after) (command.Plan dir nodes rounds) asked undisturbed
       (λ comes written. planning_ends dir nodes old new outcome comes files tells before after written)
 
-  pub ends_simulation : (files : Files) (dir : List ℕ) → old.holds ≡ Some files → AskToSimulate words dir → IsUndisturbed status
+  ends_simulation : (files : Files) (dir : List ℕ) → old.holds ≡ Some files → AskToSimulate words dir → IsUndisturbed status
       → EndsSimulation files dir status before after
   ends_simulation files dir tells asked undisturbed =
       ends_as (λ n. EndsSimulation files dir n before after) (command.Simulate dir) asked undisturbed
       (λ comes written. simulation_ends dir old new outcome comes files tells before after written)
 
-  pub ends_check : (files : Files) (dir : List ℕ) → old.holds ≡ Some files → AskToCheck words dir → IsUndisturbed status
+  ends_check : (files : Files) (dir : List ℕ) → old.holds ≡ Some files → AskToCheck words dir → IsUndisturbed status
       → EndsCheck files dir status before after
   ends_check files dir tells asked undisturbed =
       ends_as (λ n. EndsCheck files dir n before after) (command.Check dir) asked undisturbed
       (λ comes written. checking_ends dir old new outcome comes files tells before after written)
 
-  pub ends_report : (files : Files) (dir : List ℕ) (kind : ReportKind) → old.holds ≡ Some files → AskToReport words kind dir → IsUndisturbed status
+  ends_report : (files : Files) (dir : List ℕ) (kind : ReportKind) → old.holds ≡ Some files → AskToReport words kind dir → IsUndisturbed status
       → EndsReport files dir kind status before after
   ends_report files dir kind tells asked undisturbed =
       ends_as (λ n. EndsReport files dir kind n before after) (command_for kind dir) asked undisturbed
       (λ comes written. reporting_ends dir kind old new outcome (reported kind dir comes) files tells before after written)
 
-  pub ends_trial : (seed trips nodes rounds : ℕ) → AskToTry words seed trips nodes rounds → IsUndisturbed status
+  ends_trial : (seed trips nodes rounds : ℕ) → AskToTry words seed trips nodes rounds → IsUndisturbed status
       → EndsTrial seed trips nodes status before after
   ends_trial seed trips nodes rounds asked undisturbed =
       ends_as (λ n. EndsTrial seed trips nodes n before after) (command.Trial seed trips nodes rounds) asked undisturbed
       (λ comes written. trial_ends seed trips nodes outcome comes before after written)
 
-  pub ends_in_usage : IsUndisturbed status → EndsInUsage (AskInVain words) usage_text status before after
+  ends_in_usage : IsUndisturbed status → EndsInUsage (AskInVain words) usage_text status before after
   ends_in_usage undisturbed = by is
     where
       own : (text : List ℕ) × IsDocument outcome text × Appends text before after × (status ≡ status_of outcome)
@@ -112,6 +113,16 @@ module _ (words : List (List ℕ)) (old new : FolderState) (outcome : Outcome) (
             written = λ two. subst (λ (t : List ℕ). Appends t before after) line own.2;
           }
       by (Unread none) = absurd (undisturbed.2 (own.3 ∙ ap status_of none))
+
+  pub ends_by_command : IsUndisturbed status → EndsByCommand old.holds words status before after
+  ends_by_command undisturbed = record {
+    plan = λ files dir nodes rounds tells asked. ends_planning files dir nodes rounds tells asked undisturbed;
+    simulate = λ files dir tells asked. ends_simulation files dir tells asked undisturbed;
+    check = λ files dir tells asked. ends_check files dir tells asked undisturbed;
+    report = λ files dir kind tells asked. ends_report files dir kind tells asked undisturbed;
+    trial = λ seed trips nodes rounds asked. ends_trial seed trips nodes rounds asked undisturbed;
+    usage = ends_in_usage undisturbed;
+  }
 
   -- ---- whatever the status is
 

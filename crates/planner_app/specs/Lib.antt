@@ -6,6 +6,7 @@ pub mod Readings
 pub mod DayOutcomes
 pub mod Outcomes
 pub mod Statuses
+pub mod PlannerEndings
 pub mod Advice
 -- what holds of every answer that is found
 pub mod Laws

@@ -1,19 +1,15 @@
 //! The top call: it reads a folder, writes one document and answers a status.
 
-ghost use Rattle.std.specs.Prelude.{ℕ, true, List, ◌≡◌, ◌≤◌, ◌^◌, Some, All};
-ghost use Rattle.rail_io.specs.Folders.{CountsFault, Files};
+ghost use Rattle.std.specs.Prelude.{ℕ, true, ◌≡◌, ◌≤◌, ◌^◌, All};
+ghost use Rattle.rail_io.specs.Folders.{CountsFault};
 ghost use Rattle.search.specs.Questions.{LeavesAdvisors};
-ghost use Rattle.statuses.specs.Endings.{EndsInUsage, LeavesFolder, LeavesSink};
+ghost use Rattle.statuses.specs.Endings.{LeavesFolder, LeavesSink};
 ghost use Rattle.statuses.specs.Written.{CountsFailedWrites, IsStatus, IsUndisturbed};
 ghost use Rattle.run_documents.specs.declared.outcome.Outcome.{Outcome};
-ghost use Rattle.run_documents.specs.Lines.{refused_line, usage_text};
-ghost use Rattle.run_documents.specs.Planning.{EndsPlanning};
-ghost use Rattle.planner_app.specs.declared.reports.ReportKind.{ReportKind};
 ghost use Rattle.planner_app.specs.Advice.{AreAskedFor};
-ghost use Rattle.planner_app.specs.Asked.{AskForNoFolder, AskInVain, AskToCheck, AskToPlan, AskToReport, AskToSimulate};
-ghost use Rattle.planner_app.specs.Asked.{AskToTry, Grants};
+ghost use Rattle.planner_app.specs.Asked.{AskForNoFolder, Grants};
 ghost use Rattle.planner_app.specs.Outcomes.{IsOutcome};
-ghost use Rattle.planner_app.specs.Statuses.{EndsCheck, EndsReport, EndsSimulation, EndsTrial};
+ghost use Rattle.planner_app.specs.PlannerEndings.{EndsByCommand};
 ghost use Rattle.planner_app.specs.Statuses.{WroteOutcome, is_unread, status_of, status_of_verdict};
 
 use crate::run::outcome_of;
@@ -118,23 +114,9 @@ pub fn railplan<F: Folder, K: Sink>(
 ) -> u8
     requires asked { All (λ advisor. asked advisor ≤ 2 ^ 63) advisors.old.items }
 
-    // What the status means and what was written, command by command, where the status is none of 5, 6 and 7.
-    ensures plan { (files : Files) (dir : List ℕ) (nodes rounds : ℕ) → (F.state folder.old).holds ≡ Some files
-        → AskToPlan words.now dir nodes rounds → IsUndisturbed result
-        → EndsPlanning refused_line files dir nodes result (K.written out.old) (K.written out.new) }
-    ensures simulate { (files : Files) (dir : List ℕ) → (F.state folder.old).holds ≡ Some files
-        → AskToSimulate words.now dir → IsUndisturbed result
-        → EndsSimulation files dir result (K.written out.old) (K.written out.new) }
-    ensures check { (files : Files) (dir : List ℕ) → (F.state folder.old).holds ≡ Some files
-        → AskToCheck words.now dir → IsUndisturbed result
-        → EndsCheck files dir result (K.written out.old) (K.written out.new) }
-    ensures report { (files : Files) (dir : List ℕ) (kind : ReportKind) → (F.state folder.old).holds ≡ Some files
-        → AskToReport words.now kind dir → IsUndisturbed result
-        → EndsReport files dir kind result (K.written out.old) (K.written out.new) }
-    ensures trial { (seed trips nodes rounds : ℕ) → AskToTry words.now seed trips nodes rounds → IsUndisturbed result
-        → EndsTrial seed trips nodes result (K.written out.old) (K.written out.new) }
-    ensures usage { IsUndisturbed result
-        → EndsInUsage (AskInVain words.now) usage_text result (K.written out.old) (K.written out.new) }
+    // How each command ends, where the status is none of 5, 6 and 7.
+    ensures ends { IsUndisturbed result
+        → EndsByCommand (F.state folder.old).holds words.now result (K.written out.old) (K.written out.new) }
     ensures statuses { IsStatus result }
 
     // What was written is the document of an outcome of these words and this folder, whose status is the result unless

@@ -1,25 +1,9 @@
 use Rattle.std.proofs.Common.{rules}
-use Rattle.planner_app.proofs.Endings.{ends_check, ends_in_usage, ends_planning, ends_report, ends_simulation, ends_trial}
-use Rattle.planner_app.proofs.Endings.{failed_reads, is_status, leaves_sink, unread}
+use Rattle.planner_app.proofs.Endings.{ends_by_command, failed_reads, is_status, leaves_sink, unread}
 use Rattle.planner_app.proofs.top.railplan.Goals as goal
 
-pub returns-clause-plan : goal.returns-clause-plan
-returns-clause-plan g c = ends_planning _ _ _ _ _ _ _ _ _ c.outcome_of-outcome.ensures.outcome c.write_outcome.ensures.wrote
-
-pub returns-clause-simulate : goal.returns-clause-simulate
-returns-clause-simulate g c = ends_simulation _ _ _ _ _ _ _ _ _ c.outcome_of-outcome.ensures.outcome c.write_outcome.ensures.wrote
-
-pub returns-clause-check : goal.returns-clause-check
-returns-clause-check g c = ends_check _ _ _ _ _ _ _ _ _ c.outcome_of-outcome.ensures.outcome c.write_outcome.ensures.wrote
-
-pub returns-clause-report : goal.returns-clause-report
-returns-clause-report g c = ends_report _ _ _ _ _ _ _ _ _ c.outcome_of-outcome.ensures.outcome c.write_outcome.ensures.wrote
-
-pub returns-clause-trial : goal.returns-clause-trial
-returns-clause-trial g c = ends_trial _ _ _ _ _ _ _ _ _ c.outcome_of-outcome.ensures.outcome c.write_outcome.ensures.wrote
-
-pub returns-clause-usage : goal.returns-clause-usage
-returns-clause-usage g c = ends_in_usage _ _ _ _ _ _ _ _ _ c.outcome_of-outcome.ensures.outcome c.write_outcome.ensures.wrote
+pub returns-clause-ends : goal.returns-clause-ends
+returns-clause-ends g c = ends_by_command _ _ _ _ _ _ _ _ _ c.outcome_of-outcome.ensures.outcome c.write_outcome.ensures.wrote
 
 pub returns-clause-statuses : goal.returns-clause-statuses
 returns-clause-statuses g c = is_status _ _ _ _ _ _ _ _ _ c.outcome_of-outcome.ensures.outcome c.write_outcome.ensures.wrote
