@@ -34,8 +34,7 @@ use std::alloc::Global;
 ///
 /// `NotUnderstood` comes exactly where the words are not of this form; `NoMemory` is want of memory.
 pub fn read_words(alloc: Global, words: &Words) -> Result<Command, WordsRefusal>
-    ensures value { Gives is_memory result (ok_or (command_of words.now) NotUnderstood) }
-    ensures meaning { Reads IsPlainForm words.now result }
+    ensures { Reads IsPlainForm words.now result }
 {
     command(alloc, words)
 }
