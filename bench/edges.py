@@ -4,7 +4,7 @@
     edges.py LINKS PLATFORM [exchange] > src/main.rt
 
 With a platform of 302 metres there are 859 compositions. With the third word each turn may uncouple units in front and
-couple others at the rear; there are then other types, and with a platform of 200 metres 883 compositions. The README.md
+couple others at the rear; there are then other types, and with a platform of 200 metres 883 compositions. The edges.md
 beside it says how it is run and what is measured.
 """
 import sys

@@ -3,7 +3,7 @@
 
     simulate.py BIN
 
-BIN is the program as `rt run` builds it. It needs valgrind. The README.md beside it says what is measured.
+BIN is the program as `rt run` builds it. It needs valgrind. The simulate.md beside it says what is measured.
 """
 import os
 import re
